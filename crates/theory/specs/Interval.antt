@@ -1,0 +1,61 @@
+-- Intervals of fractions, their product and difference (004, Definition 4), and the bottom-up method on alpha-cuts (004, equation (6)).
+use Prim.Native.Nat.{ℕ}
+use mathlib.Core.Bool.{cond}
+use mathlib.Core.List.{List, [], _∷_, map}
+use Rattle.theory.specs.Fraction.{Fraction, Probability, _≼_, at-most, one, _⊗_, _⊖_}
+use Rattle.theory.specs.FaultTree.{GateKind, all, any, Tree, Inputs, basic, gate, only, more}
+
+pub record Interval : Type 0 where
+  pub lower : Fraction
+  pub upper : Fraction
+
+-- p lies in the interval, the ends included
+pub record Inside (x : Interval) (p : Fraction) : Type 0 where
+  pub above : x .lower ≼ p
+  pub below : p ≼ x .upper
+
+-- an interval of probabilities
+pub record Ordered (x : Interval) : Type 0 where
+  pub lower-probability : Probability (x .lower)
+  pub upper-probability : Probability (x .upper)
+  pub rising : x .lower ≼ x .upper
+
+abbrev pub lesser : Fraction → Fraction → Fraction
+lesser f g = cond (at-most f g) f g
+
+abbrev pub greater : Fraction → Fraction → Fraction
+greater f g = cond (at-most f g) g f
+
+-- from the least to the greatest of the four products of ends
+abbrev pub times : Interval → Interval → Interval
+times x y =
+    let ll : Fraction = x .lower ⊗ y .lower in
+    let lu : Fraction = x .lower ⊗ y .upper in
+    let ul : Fraction = x .upper ⊗ y .lower in
+    let uu : Fraction = x .upper ⊗ y .upper in
+    record { lower = lesser ll (lesser lu (lesser ul uu)); upper = greater ll (greater lu (greater ul uu)) }
+
+abbrev pub minus : Interval → Interval → Interval
+minus x y = record { lower = x .lower ⊖ y .upper; upper = x .upper ⊖ y .lower }
+
+-- from 1 to 1
+abbrev pub unit-interval : Interval
+unit-interval = record { lower = one; upper = one }
+
+abbrev pub interval-product : List Interval → Interval
+interval-product [] = unit-interval
+interval-product (x ∷ xs) = times x (interval-product xs)
+
+abbrev pub interval-joined : GateKind → List Interval → Interval
+interval-joined all xs = interval-product xs
+interval-joined any xs = minus unit-interval (interval-product (map (minus unit-interval) xs))
+
+-- equation (6): the alpha-cut of a node by the alpha-cuts of the events
+abbrev mutual
+  pub interval-bottom-up : (ℕ → Interval) → Tree → Interval
+  interval-bottom-up cuts (basic e) = cuts e
+  interval-bottom-up cuts (gate k ts) = interval-joined k (all-intervals cuts ts)
+
+  pub all-intervals : (ℕ → Interval) → Inputs → List Interval
+  all-intervals cuts (only t) = interval-bottom-up cuts t ∷ []
+  all-intervals cuts (more t ts) = interval-bottom-up cuts t ∷ all-intervals cuts ts

@@ -1,0 +1,34 @@
+-- What is promised of a reported end and of the top probability (demand 3).
+use Prim.Native.Nat.{ℕ, _-_, _*_}
+use mathlib.Core.Bool.{not}
+use lib.Dec.{T}
+use Rattle.theory.specs.Fraction.{Fraction, _≼_, _≺_, _≈_, in-units, plus-units}
+use Rattle.theory.specs.FaultTree.{Tree, Each, beneath}
+use Rattle.theory.specs.Unreliability.{unreliability}
+use Rattle.theory.specs.Interval.{Interval, Inside}
+use Rattle.theory.specs.Rounding.{Direction, down, up, End, end-of, reported}
+
+-- of a reported and an exact end, the one that must not lie above the other: a lower end is reported at or below the exact
+-- one, an upper end at or above it
+abbrev pub under : Direction → Fraction → Fraction → Fraction
+under down reported exact = reported
+under up reported exact = exact
+
+abbrev pub over : Direction → Fraction → Fraction → Fraction
+over down reported exact = exact
+over up reported exact = reported
+
+-- The reported end r of the exact end x, in the direction w, for E basic events. `near` is written without a difference:
+-- the one is below the other and 2 × E − 1 units more.
+pub record Promised (U : ℕ) (w : Direction) (E : ℕ) (r : End) (x : Fraction) : Type 0 where
+  pub marked : T (r .exact) → in-units U (r .value) ≈ x
+  pub unmarked : T (not (r .exact)) → under w (in-units U (r .value)) x ≺ over w (in-units U (r .value)) x
+  pub near : over w (in-units U (r .value)) x ≺ plus-units U (2 * E - 1) (under w (in-units U (r .value)) x)
+
+-- a node's exact end: its unreliability with every event at that end of its cut
+abbrev pub exact-end : Direction → (ℕ → Interval) → Tree → Fraction
+exact-end w cuts t = unreliability (λ e. end-of w (cuts e)) t
+
+-- a choice of fractions, one inside each cut of the events at or beneath the node
+abbrev pub Choice : (ℕ → Interval) → Tree → (ℕ → Fraction) → Type 0
+Choice cuts t p = Each (λ e. Inside (cuts e) (p e)) (beneath t)

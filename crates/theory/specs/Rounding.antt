@@ -1,0 +1,87 @@
+-- Outward rounding to units of which U make 1: the step of a gate with its mark, and the rounded evaluation of a tree
+-- (01, "A level, and the way up"). One definition serves both directions: lower ends are rounded down, upper ends up.
+use Prim.Native.Nat.{ℕ, zero, suc, _+_, _-_, _*_, _/_, _%_}
+use mathlib.Core.Bool.{Bool, true, _&&_, _||_}
+use mathlib.Core.List.{List, [], _∷_, map}
+use lib.Dec.{eqb}
+use Rattle.theory.specs.Fraction.{Fraction}
+use Rattle.theory.specs.FaultTree.{GateKind, all, any, Tree, Inputs, basic, gate, only, more}
+use Rattle.theory.specs.Interval.{Interval}
+
+pub data Direction : Type 0 where
+  down up : Direction
+
+abbrev pub opposite : Direction → Direction
+opposite down = up
+opposite up = down
+
+-- 0 for a remainder of 0, and 1 for any other
+abbrev pub carry : ℕ → ℕ
+carry zero = 0
+carry (suc r) = 1
+
+-- a / b, rounded
+unfoldable pub rounded : Direction → ℕ → ℕ → ℕ
+rounded down a b = a / b
+rounded up a b = a / b + carry (a % b)
+
+-- rounding a / b drops nothing
+unfoldable pub nothing-dropped : ℕ → ℕ → Bool
+nothing-dropped a b = eqb (carry (a % b)) 0
+
+-- an end of a node's interval, in units, with the mark that says whether it is exact
+pub record End : Type 0 where
+  pub value : ℕ
+  pub exact : Bool
+
+-- the number that AND starts with
+unfoldable pub start : ℕ → End
+start U = record { value = U; exact = true }
+
+-- U minus a number is exact as the number is
+unfoldable pub end-complement : ℕ → End → End
+end-complement U r = record { value = U - r .value; exact = r .exact }
+
+-- an end that is exact and 0
+unfoldable pub true-zero : End → Bool
+true-zero r = r .exact && eqb (r .value) 0
+
+-- the running number r times a factor x
+unfoldable pub step : ℕ → Direction → End → End → End
+step U w r x = record {
+  value = rounded w (r .value * x .value) U;
+  exact = r .exact && x .exact && nothing-dropped (r .value * x .value) U || (true-zero r || true-zero x);
+}
+
+-- a basic event's end: the exact end f of its cut, rounded once
+unfoldable pub cut-end : ℕ → Direction → Fraction → End
+cut-end U w f = record { value = rounded w (f .num * U) (f .den); exact = nothing-dropped (f .num * U) (f .den) }
+
+-- the running number after the inputs of a list, in their order
+abbrev pub run : ℕ → Direction → End → List End → End
+run U w r [] = r
+run U w r (x ∷ xs) = run U w (step U w r x) xs
+
+-- a gate's end by its inputs' ends: OR is U minus the AND of U minus each, rounded the other way
+abbrev pub gate-end : ℕ → Direction → GateKind → List End → End
+gate-end U w all xs = run U w (start U) xs
+gate-end U w any xs = end-complement U (run U (opposite w) (start U) (map (end-complement U) xs))
+
+-- the rounded end of a tree in a direction, by the exact ends of its events' cuts in that direction
+abbrev mutual
+  pub rounded-end : ℕ → Direction → (ℕ → Fraction) → Tree → End
+  rounded-end U w p (basic e) = cut-end U w (p e)
+  rounded-end U w p (gate k ts) = gate-end U w k (all-ends U w p ts)
+
+  pub all-ends : ℕ → Direction → (ℕ → Fraction) → Inputs → List End
+  all-ends U w p (only t) = rounded-end U w p t ∷ []
+  all-ends U w p (more t ts) = rounded-end U w p t ∷ all-ends U w p ts
+
+-- the end of an interval in a direction
+abbrev pub end-of : Direction → Interval → Fraction
+end-of down x = x .lower
+end-of up x = x .upper
+
+-- what is reported of a node: the end in a direction, by the events' cuts
+abbrev pub reported : ℕ → Direction → (ℕ → Interval) → Tree → End
+reported U w cuts t = rounded-end U w (λ e. end-of w (cuts e)) t
