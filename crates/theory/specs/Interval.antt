@@ -1,5 +1,5 @@
 -- Intervals of fractions, their product and difference (004, Definition 4), and the bottom-up method on alpha-cuts (004, equation (6)).
-use Prim.Native.Nat.{ℕ}
+use Prim.Native.Nat.{ℕ, _<_}
 use mathlib.Core.Bool.{cond}
 use mathlib.Core.List.{List, [], _∷_, map}
 use Rattle.theory.specs.Fraction.{Fraction, Probability, _≼_, at-most, one, _⊗_, _⊖_}
@@ -9,8 +9,9 @@ pub record Interval : Type 0 where
   pub lower : Fraction
   pub upper : Fraction
 
--- p lies in the interval, the ends included
+-- the fraction p lies in the interval, the ends included
 pub record Inside (x : Interval) (p : Fraction) : Type 0 where
+  pub positive : 0 < p .den
   pub above : x .lower ≼ p
   pub below : p ≼ x .upper
 

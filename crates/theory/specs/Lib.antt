@@ -11,3 +11,4 @@ pub mod Opinion
 pub mod Rounding
 pub mod Promise
 pub mod NodeTable
+pub mod Examples

@@ -15,7 +15,7 @@ abbrev pub empty-set : EventSet
 empty-set i = false
 
 abbrev pub with-event : ℕ → EventSet → EventSet
-with-event e s i = eqb i e || s i
+with-event e s i = eqb e i || s i
 
 -- every set of the listed events, the empty one too
 abbrev pub subsets : List ℕ → List EventSet

@@ -1,0 +1,13 @@
+pub mod Sums
+pub mod Distinct
+pub mod Expectation
+pub mod CutSetSum
+pub mod BottomUpProbability
+pub mod Independence
+pub mod UnreliabilityIsBottomUp
+pub mod FractionOrder
+pub mod UnreliabilityRises
+pub mod CutIsBottomUp
+pub mod CutOrdered
+pub mod MeanRising
+pub mod ExamplesHold

@@ -1,0 +1,114 @@
+-- The table of proved examples (01, P1 to P12): a tree, its events' numbers, a level, and the ends and marks reported.
+use Prim.Native.Nat.{ℕ}
+use mathlib.Core.Bool.{true, false}
+use mathlib.Core.List.{List, [], _∷_}
+use lib.ListN.{getD}
+use Rattle.theory.specs.FaultTree.{GateKind, all, any, Tree, basic, gate, only, more}
+use Rattle.theory.specs.Trapezoid.{Trapezoid, cut}
+use Rattle.theory.specs.Opinion.{says, low, fairly-low, medium, fairly-high, high, mean}
+use Rattle.theory.specs.Rounding.{Direction, End, reported}
+
+-- U for billionths
+abbrev pub billion : ℕ
+billion = 1_000_000_000
+
+-- four numbers in billionths
+abbrev pub numbers : ℕ → ℕ → ℕ → ℕ → Trapezoid
+numbers a b c d = record { den = billion; a = a; b = b; c = c; d = d }
+
+-- four equal numbers
+abbrev pub crisp : ℕ → Trapezoid
+crisp v = numbers v v v v
+
+-- a value with its mark
+abbrev pub marked : ℕ → End
+marked v = record { value = v; exact = true }
+
+abbrev pub unmarked : ℕ → End
+unmarked v = record { value = v; exact = false }
+
+-- event i has the number at place i of `entries`; the level is k of n
+pub record Example : Type 0 where
+  pub tree : Tree
+  pub entries : List Trapezoid
+  pub k : ℕ
+  pub n : ℕ
+  pub lower : End
+  pub upper : End
+
+-- what the rounded evaluation reports of an example, in a direction
+abbrev pub outcome : Direction → Example → End
+outcome w x = reported billion w (λ e. cut (getD (x .entries) e (crisp 0)) (x .k) (x .n)) (x .tree)
+
+-- event 0 alone
+abbrev pub single : Tree
+single = basic 0
+
+-- event 0 and event 1 under one gate
+abbrev pub pair : GateKind → Tree
+pair kind = gate kind (more (basic 0) (only (basic 1)))
+
+-- 004's road trip (figure 3): event 0 and either event 1 or event 2
+abbrev pub road-trip : Tree
+road-trip = gate all (more (basic 0) (only (gate any (more (basic 1) (only (basic 2))))))
+
+-- scores 2 and 1, who say Low and Fairly Low
+abbrev pub two-experts : Trapezoid
+two-experts = mean (says 2 low ∷ says 1 fairly-low ∷ [])
+
+-- the scores of 000, with terms 6, 5, 6, 4, 6, 4
+abbrev pub six-experts : Trapezoid
+six-experts =
+    mean (says 15 high ∷ says 12 fairly-high ∷ says 10 high ∷ says 12 medium ∷ says 5 high ∷ says 8 medium ∷ [])
+
+abbrev pub spread : Trapezoid
+spread = numbers 0 1 1 2
+
+-- the level is 1 of 2 unless said
+abbrev pub halfway : Tree → List Trapezoid → End → End → Example
+halfway t entries l u = record { tree = t; entries = entries; k = 1; n = 2; lower = l; upper = u }
+
+-- a single entry at level k of 2
+abbrev pub at-level : ℕ → Trapezoid → End → End → Example
+at-level k z l u = record { tree = single; entries = z ∷ []; k = k; n = 2; lower = l; upper = u }
+
+abbrev pub P1 : Example
+P1 = halfway (pair all) (crisp 1 ∷ crisp 1 ∷ []) (unmarked 0) (unmarked 1)
+
+abbrev pub P2 : Example
+P2 = halfway (pair all) (crisp billion ∷ crisp 7 ∷ []) (marked 7) (marked 7)
+
+abbrev pub P3 : Example
+P3 = halfway (pair all) (crisp 500_000_000 ∷ crisp 3 ∷ []) (unmarked 1) (unmarked 2)
+
+abbrev pub P4 : Example
+P4 = halfway (pair any) (crisp 1 ∷ crisp 1 ∷ []) (unmarked 1) (unmarked 2)
+
+abbrev pub P5 : Example
+P5 = halfway single (spread ∷ []) (unmarked 0) (unmarked 2)
+
+abbrev pub P6 : Example
+P6 = halfway (pair all) (spread ∷ crisp 0 ∷ []) (marked 0) (marked 0)
+
+abbrev pub P7 : Example
+P7 = halfway (pair all) (spread ∷ crisp 1 ∷ []) (unmarked 0) (unmarked 1)
+
+abbrev pub P8 : Example
+P8 =
+    halfway road-trip (crisp 800_000_000 ∷ crisp 100_000_000 ∷ crisp 400_000_000 ∷ []) (marked 368_000_000)
+    (marked 368_000_000)
+
+abbrev pub P9 : Example
+P9 = at-level 2 two-experts (unmarked 176_666_666) (unmarked 176_666_667)
+
+abbrev pub P10 : Example
+P10 = at-level 0 two-experts (unmarked 103_333_333) (marked 250_000_000)
+
+abbrev pub P11 : Example
+P11 = at-level 0 six-experts (unmarked 624_838_709) (unmarked 818_387_097)
+
+abbrev pub P12 : Example
+P12 = at-level 2 six-experts (unmarked 723_548_387) (unmarked 723_548_388)
+
+abbrev pub table : List Example
+table = P1 ∷ P2 ∷ P3 ∷ P4 ∷ P5 ∷ P6 ∷ P7 ∷ P8 ∷ P9 ∷ P10 ∷ P11 ∷ P12 ∷ []
