@@ -1,12 +1,12 @@
 -- Lists without repeats, by membership and by how often a number stands in a list. Assumes nothing.
-use Prim.Native.Nat.{ℕ, zero, suc, _+_, _≤_, _<_}
-use mathlib.Core.Path.{_≡_, refl, sym, ap, subst, _∙_}
+use Prim.Native.Nat.{ℕ, _+_, _≤_, _<_}
+use mathlib.Core.Path.{_≡_, refl, sym, ap, _∙_}
 use mathlib.Core.Bool.{Bool, true, false, cond, not, _||_}
 use mathlib.Core.List.{List, [], _∷_, _++_}
 use native.Mathlib.Nat.{zero-add}
 use native.Mathlib.Omega.{arith}
-use lib.Dec.{T, eqb, ltb, lt→ltb, ltb→lt, nltb→le, not-T, T-not, eqb-refl, eqb→eq}
-use borrow.Author.Tests.{eqb-true, eq-eqb, lt-ltb, le-ltb}
+use lib.Dec.{T, eqb, ltb, lt→ltb, ltb→lt, nltb→le, not-T}
+use borrow.Author.Tests.{eqb-true, eq-eqb, lt-ltb}
 use Rattle.theory.specs.FaultTree.{contains, each-once, Each}
 use Rattle.theory.proofs.Sums.{summed, summed-append}
 
@@ -23,7 +23,7 @@ is e x = cond (eqb e x) 1 0
 abbrev pub multiplicity : ℕ → List ℕ → ℕ
 multiplicity e es = summed (is e) es
 
--- a list contains just what stands in it at least once
+-- the test whether a list contains e is the test whether e stands in it at least once
 pub contains-counted : (e : ℕ) (es : List ℕ) → contains e es ≡ ltb 0 (multiplicity e es)
 contains-counted e [] = refl
 contains-counted e (x ∷ xs) = go (eqb e x) (contains-counted e xs)
@@ -34,17 +34,21 @@ contains-counted e (x ∷ xs) = go (eqb e x) (contains-counted e xs)
     go false h = rw zero-add h
 
 module _ (e : ℕ) (es : List ℕ) where
+  -- what a list contains stands in it at least once
   pub contained-counted : T (contains e es) → 0 < multiplicity e es
   contained-counted t = ltb→lt 0 (multiplicity e es) (rw (contains-counted e es) at t)
 
+  -- what stands in a list at least once is contained in it
   pub counted-contained : 0 < multiplicity e es → T (contains e es)
   counted-contained h = rw (contains-counted e es) (lt→ltb 0 (multiplicity e es) h)
 
+  -- what a list does not contain stands in it 0 times
   pub absent-not-counted : T (not (contains e es)) → multiplicity e es ≡ 0
   absent-not-counted t =
       let h : multiplicity e es ≤ 0 = nltb→le 0 (multiplicity e es) (rw (contains-counted e es) at t) in
       omega arith
 
+  -- what stands in a list 0 times is not contained in it
   pub not-counted-absent : multiplicity e es ≡ 0 → T (not (contains e es))
   not-counted-absent h =
       not-T (contains e es) (λ t. let p : 0 < multiplicity e es = contained-counted t in omega arith)
@@ -129,7 +133,7 @@ each-once-distinct (x ∷ xs) = go (contains x xs) refl (each-once-distinct xs)
     go true p d = d
     go false p d = (rw (contains-each-once x xs, p) tt, d)
 
--- a property of whatever a list contains, and of each number of it
+-- a property of whatever a list contains is one of each number of it
 pub each-of-contained : (P : ℕ → Type 0) (es : List ℕ) → ((e : ℕ) → T (contains e es) → P e) → Each P es
 each-of-contained P [] h = tt
 each-of-contained P (x ∷ xs) h = (h x first, each-of-contained P xs (λ e t. h e (later e (eqb e x) t)))
@@ -141,6 +145,7 @@ each-of-contained P (x ∷ xs) h = (h x first, each-of-contained P xs (λ e t. h
     later e true t = tt
     later e false t = t
 
+-- a property of each number of a list is one of whatever the list contains
 pub contained-of-each : (P : ℕ → Type 0) (es : List ℕ) → Each P es → (e : ℕ) → T (contains e es) → P e
 contained-of-each P [] h e t = absurd t
 contained-of-each P (x ∷ xs) h e t = go (eqb e x) refl t (contained-of-each P xs (h .1) e)

@@ -1,13 +1,37 @@
+-- What follows from specs/, in the order of the argument. The main theorems are in `ReportedEnds`.
+-- Lists and fractions.
+pub mod Missing
 pub mod Sums
 pub mod Distinct
+pub mod FractionOrder
+pub mod FractionEqual
+-- Demand 2: the sum over all cut sets is the bottom-up reckoning, and so are the ends of the alpha-cut.
+pub mod BottomUpProbability
 pub mod Expectation
 pub mod CutSetSum
-pub mod BottomUpProbability
 pub mod Independence
 pub mod UnreliabilityIsBottomUp
-pub mod FractionOrder
 pub mod UnreliabilityRises
 pub mod CutIsBottomUp
 pub mod CutOrdered
 pub mod MeanRising
+-- Demand 3: the rounded ends.
+pub mod Gap
+pub mod Outward
+pub mod RoundingMeaning
+pub mod Rounded
+pub mod RoundedGate
+pub mod RoundedTree
+pub mod Promised
+pub mod ReportedEnds
+-- Tables of nodes and links.
+pub mod LinkedSums
+pub mod TreeOf
+pub mod Counting
+pub mod DistinctEvents
+pub mod OneRoot
+pub mod GateFold
+pub mod LinksBelow
+pub mod NodePromised
+-- The table of examples.
 pub mod ExamplesHold

@@ -1,20 +1,21 @@
 -- Sums of v, over the numbers of a list and over the numbers below n. Assumes nothing.
 use Prim.Native.Nat.{ℕ, zero, suc, _+_, _≤_, _<_}
-use mathlib.Core.Path.{_≡_, refl, sym, ap₂, _∙_}
-use mathlib.Core.Logic.{_≢_, _⊎_, inl, inr}
+use mathlib.Core.Path.{_≡_, refl}
+use mathlib.Core.Logic.{_≢_}
 use mathlib.Core.Bool.{Bool, true, false, cond}
 use mathlib.Core.List.{List, [], _∷_, _++_}
 use native.Mathlib.Nat.{zero-add, add-zero, add-assoc}
 use native.Mathlib.Omega.{arith}
 use lib.Dec.{eqb}
 use lib.ListN.{length}
-use borrow.Author.Tests.{eqb-true, eqb-false, eq-eqb, ne-eqb}
+use borrow.Author.Tests.{eqb-true, eqb-false, ne-eqb}
 
 -- the sum of v over a list
 abbrev pub summed : (ℕ → ℕ) → List ℕ → ℕ
 summed v [] = 0
 summed v (e ∷ es) = v e + summed v es
 
+-- the sum over a joined list is the sum of the sums
 pub summed-append : (v : ℕ → ℕ) (xs ys : List ℕ) → summed v (xs ++ ys) ≡ summed v xs + summed v ys
 summed-append v [] ys = rw zero-add
 summed-append v (x ∷ xs) ys = rw (summed-append v xs ys, add-assoc)
@@ -29,6 +30,7 @@ abbrev pub sum : ℕ → (ℕ → ℕ) → ℕ
 sum zero v = 0
 sum (suc n) v = sum n v + v n
 
+-- with 1 for every number they sum up to n
 pub sum-ones : (n : ℕ) → sum n (λ i. 1) ≡ n
 sum-ones zero = refl
 sum-ones (suc n) = omega (arith, sum-ones n)
@@ -48,9 +50,7 @@ sum-zeros v (suc n) h = omega (arith, sum-zeros v n (λ i l. h i (omega arith)),
 abbrev pub without : ℕ → (ℕ → ℕ) → ℕ → ℕ
 without k v i = cond (eqb i k) 0 (v i)
 
-pub without-at : (k : ℕ) (v : ℕ → ℕ) → without k v k ≡ 0
-without-at k v = rw (eq-eqb k k refl)
-
+-- v is left as it is at every other number
 pub without-elsewhere : (k : ℕ) (v : ℕ → ℕ) (i : ℕ) → i ≢ k → without k v i ≡ v i
 without-elsewhere k v i h = rw (ne-eqb i k h)
 

@@ -1,0 +1,84 @@
+-- The main theorems on a tree: what is promised of each reported end (demand 3), that the exact ends are the ends of the
+-- alpha-cut of 004 (demand 2), and that the top probability lies in the reported interval.
+-- Assumes nothing.
+use Prim.Native.Nat.{ℕ, _≤_, _<_}
+use mathlib.Core.Path.{_≡_, refl, sym, ap, _∙_}
+use mathlib.Core.Bool.{Bool, true, false, not}
+use native.Mathlib.Nat.{le-refl, le-of-lt, le-of-eq}
+use lib.Dec.{T}
+use lib.ListN.{length}
+use Rattle.theory.specs.Fraction.{Fraction, Probability, _≼_, _≺_, _≈_, in-units}
+use Rattle.theory.specs.FaultTree.{Tree, events, beneath, Each}
+use Rattle.theory.specs.Unreliability.{unreliability}
+use Rattle.theory.specs.BottomUp.{bottom-up}
+use Rattle.theory.specs.Interval.{Interval, Ordered, interval-bottom-up}
+use Rattle.theory.specs.Rounding.{Direction, down, up, End, end-of, reported}
+use Rattle.theory.specs.Promise.{under, over, Promised, exact-end, Choice}
+use Rattle.theory.proofs.Distinct.{Distinct}
+use Rattle.theory.proofs.FractionOrder.{at-most-trans}
+use Rattle.theory.proofs.BottomUpProbability.{bottom-up-probability}
+use Rattle.theory.proofs.Expectation.{Probable, each-map}
+use Rattle.theory.proofs.UnreliabilityIsBottomUp.{each-beneath, unreliability-is-bottom-up, distinct-independent}
+use Rattle.theory.proofs.UnreliabilityRises.{unreliability-probability, between-exact-ends}
+use Rattle.theory.proofs.CutIsBottomUp.{cut-is-bottom-up}
+use Rattle.theory.proofs.Promised.{end-promised, promised-respects}
+
+-- both ends of an interval of probabilities are probabilities
+end-probability : (w : Direction) (x : Interval) → Ordered x → Probability (end-of w x)
+end-probability down x h = h .lower-probability
+end-probability up x h = h .upper-probability
+
+-- a promised end is on the safe side
+pub promised-safe : (U : ℕ) (w : Direction) (E : ℕ) (r : End) (x : Fraction) → Promised U w E r x
+    → under w (in-units U (r .value)) x ≼ over w (in-units U (r .value)) x
+promised-safe U w E r x h = go w (r .exact) (h .marked) (h .unmarked)
+  where
+    v : Fraction
+    v = in-units U (r .value)
+
+    go : (w : Direction) (m : Bool) → (T m → v ≈ x) → (T (not m) → under w v x ≺ over w v x) → under w v x ≼ over w v x
+    go down true e s = le-of-eq (e tt)
+    go up true e s = le-of-eq (sym (e tt))
+    go w false e s = le-of-lt (s tt)
+
+module _ (cuts : ℕ → Interval) (t : Tree) (ordered : Each (λ e. Ordered (cuts e)) (events t)) where
+  ends-probable : (w : Direction) → Each (Probable (λ e. end-of w (cuts e))) (events t)
+  ends-probable w = each-map _ _ (λ e. end-probability w (cuts e)) (events t) ordered
+
+  -- a node's exact ends are probabilities
+  pub exact-end-probability : (w : Direction) → Probability (exact-end w cuts t)
+  exact-end-probability w = unreliability-probability _ t (each-beneath _ t (ends-probable w))
+
+  module _ (distinct : Distinct (events t)) where
+    -- a node's exact end is the bottom-up reckoning at the events' ends
+    exact-end-is-bottom-up : (w : Direction) → exact-end w cuts t ≈ bottom-up (λ e. end-of w (cuts e)) t
+    exact-end-is-bottom-up w =
+        unreliability-is-bottom-up _ t (ends-probable w) (distinct-independent t (λ e. end-of w (cuts e)) distinct)
+
+    -- demand 2: the exact ends are the ends of the alpha-cut that 004 gives the node
+    pub exact-end-is-cut : (w : Direction) → exact-end w cuts t ≈ end-of w (interval-bottom-up cuts t)
+    exact-end-is-cut down = rw (cut-is-bottom-up cuts t ordered) (exact-end-is-bottom-up down)
+    exact-end-is-cut up = rw (cut-is-bottom-up cuts t ordered) (exact-end-is-bottom-up up)
+
+    -- demand 3: every reported end keeps its promise, for as many events as stand in the tree and for more
+    pub reported-promised : (U : ℕ) → 0 < U → (w : Direction) (E : ℕ) → length (events t) ≤ E
+        → Promised U w E (reported U w cuts t) (exact-end w cuts t)
+    reported-promised U pos w E few =
+        promised-respects U w E (reported U w cuts t) (bottom-up (λ e. end-of w (cuts e)) t) (exact-end w cuts t) pos
+        (bottom-up-probability t (λ e. end-of w (cuts e)) (ends-probable w) .positive) (exact-end-probability w .positive)
+        (sym (exact-end-is-bottom-up w))
+        (end-promised U pos w (λ e. end-of w (cuts e)) t (ends-probable w) E few)
+
+    -- demand 3: whatever fractions the events have inside their cuts, the top probability lies in the reported interval
+    pub top-contained : (U : ℕ) → 0 < U → (p : ℕ → Fraction) → Choice cuts t p
+        → (in-units U (reported U down cuts t .value) ≼ unreliability p t)
+        × (unreliability p t ≼ in-units U (reported U up cuts t .value))
+    top-contained U pos p chosen =
+        let inner = between-exact-ends cuts t p (each-beneath _ t ordered) chosen in
+        let safe : (w : Direction) → _ = λ w. promised-safe U w _ (reported U w cuts t) (exact-end w cuts t)
+        (reported-promised U pos w (length (events t)) (le-refl _)) in (
+          at-most-trans (in-units U (reported U down cuts t .value)) (exact-end down cuts t) (unreliability p t)
+              (exact-end-probability down .positive) (safe down) (inner .0),
+          at-most-trans (unreliability p t) (exact-end up cuts t) (in-units U (reported U up cuts t .value))
+              (exact-end-probability up .positive) (inner .1) (safe up),
+        )

@@ -1,0 +1,134 @@
+-- The gap between a rounded end and the exact fraction that it stands in for, through each definition of Rounding.antt.
+-- No other file opens them. Assumes nothing.
+use Prim.Native.Nat.{ℕ, zero, suc, _+_, _-_, _*_, _%_, _≤_, _<_}
+use native.Mathlib.Nat.{mul-le-mul, mul-le-mul-right, mul-pos, zero-mul, mul-zero, mul-comm}
+use native.Mathlib.Omega.{arith}
+use mathlib.Core.Path.{_≡_, refl, ap, ap₂, sym, _∙_}
+use mathlib.Core.Bool.{Bool, true, false, _&&_, _||_}
+use lib.Dec.{T, eqb, eqb→eq}
+use Rattle.theory.specs.Fraction.{Fraction, Probability, one, _⊗_, complement}
+use Rattle.theory.specs.Rounding.{Direction, down, up, opposite, carry, rounded, nothing-dropped}
+use Rattle.theory.specs.Rounding.{End, start, end-complement, true-zero, step, cut-end}
+use Rattle.theory.proofs.Missing.{sub-mul, eqb-zero-times, either-of-or, both-of-and}
+use Rattle.theory.proofs.Outward.{Outward, outward-respects, outward-exact, outward-widen, outward-join, outward-scale}
+use Rattle.theory.proofs.Outward.{outward-cancel, outward-complement, outward-product}
+use Rattle.theory.proofs.BottomUpProbability.{one-probability, product-probability}
+use Rattle.theory.proofs.RoundingMeaning.{rounded-outward, rounded-at-most, carry-at-most-one, carry-whole, nothing-dropped-zero}
+
+-- the end r, of which U make 1, stands in for x, less than A units off in the direction w where A is above 0
+pub record EndGap (U : ℕ) (w : Direction) (A : ℕ) (r : End) (x : Fraction) : Type 0 where
+  pub outward : Outward w A (x .den) (r .exact) (r .value * x .den) (x .num * U)
+  pub bounded : r .value ≤ U
+
+-- the allowance and the fraction may be written otherwise
+pub end-gap-respects : {U A B : ℕ} {w : Direction} {r : End} {x y : Fraction}
+    → A ≡ B → x ≡ y → EndGap U w A r x → EndGap U w B r y
+end-gap-respects a e g = rw (← a, ← e) g
+
+-- the allowance may grow
+pub end-gap-widen : {U A B : ℕ} {w : Direction} {r : End} {x : Fraction}
+    → A ≤ B → Probability x → EndGap U w A r x → EndGap U w B r x
+end-gap-widen l p g = record { outward = outward-widen l (p .positive) (g .outward); bounded = g .bounded }
+
+-- a number of units in a probability's denominator is at most the denominator times U
+units-at-most : (U : ℕ) {f : Fraction} → Probability f → f .num * U ≤ U * f .den
+units-at-most U p = omega (arith, mul-le-mul-right U (p .at-most-one))
+
+-- a basic event's end is off by what one rounding drops
+pub cut-end-gap-carry : (U : ℕ) (w : Direction) (f : Fraction) → Probability f
+    → EndGap U w (carry (f .num * U % f .den)) (cut-end U w f) f
+unfolding cut-end
+cut-end-gap-carry U w f p = record {
+  outward = rounded-outward w (f .num * U) (f .den) (p .positive);
+  bounded = rounded-at-most w (f .num * U) (f .den) U (p .positive) (units-at-most U p);
+}
+
+-- that is less than 1 unit
+pub cut-end-gap : (U : ℕ) (w : Direction) (f : Fraction) → Probability f → EndGap U w 1 (cut-end U w f) f
+cut-end-gap U w f p = end-gap-widen (carry-at-most-one (f .num * U % f .den)) p (cut-end-gap-carry U w f p)
+
+-- the number that AND starts with is 1
+pub start-gap : (U : ℕ) (w : Direction) → EndGap U w 0 (start U) one
+unfolding start
+start-gap U w = record { outward = outward-exact w 1 (omega arith); bounded = omega arith }
+
+-- a rounded product of ends stands in for the product of what they stand in for
+product-outward : {U A B : ℕ} {w : Direction} {r x : End} {f g : Fraction}
+    → 0 < U → Probability f → Probability g → EndGap U w A r f → EndGap U w B x g
+    → Outward w (A + B + carry (r .value * x .value % U)) (f .den * g .den)
+    (nothing-dropped (r .value * x .value) U && (r .exact && x .exact || (true-zero r || true-zero x)))
+    (rounded w (r .value * x .value) U * (f .den * g .den)) (f .num * g .num * U)
+unfolding true-zero
+product-outward {U} {w} {r} {x} {f} {g} i p q k l =
+    outward-cancel U i (outward-respects (omega arith) refl refl (omega arith) (omega arith)
+    (outward-join
+    (outward-respects refl (omega arith) refl refl refl
+    (outward-scale (f .den * g .den) (mul-pos (p .positive) (q .positive))
+    (rounded-outward w (r .value * x .value) U i)))
+    (outward-respects refl refl
+    (ap₂ (λ a b. r .exact && x .exact || (r .exact && a || x .exact && b))
+    (eqb-zero-times (r .value) (f .den) (p .positive)) (eqb-zero-times (x .value) (g .den) (q .positive)))
+    (omega arith) refl
+    (outward-product U i (p .positive) (q .positive)
+    (mul-le-mul-right (f .den) (k .bounded)) (units-at-most U p)
+    (mul-le-mul-right (g .den) (l .bounded)) (units-at-most U q)
+    (k .outward) (l .outward)))))
+
+-- an end that is marked and 0 makes a product that drops nothing
+zero-drops-nothing : (U : ℕ) (r x : End) → T (true-zero r || true-zero x) → T (nothing-dropped (r .value * x .value) U)
+unfolding true-zero
+zero-drops-nothing U r x = either-of-or (true-zero r) (true-zero x)
+    (λ t. nothing-dropped-zero _ U (rw (eqb→eq (r .value) 0 (both-of-and (r .exact) (eqb (r .value) 0) t .1)) (zero-mul _)))
+    (λ t. nothing-dropped-zero _ U (rw (eqb→eq (x .value) 0 (both-of-and (x .exact) (eqb (x .value) 0) t .1)) (mul-zero _)))
+
+-- the mark of a step, written otherwise: nothing is dropped, and both are marked or there is a marked 0
+step-mark : (a b k z : Bool) → (T z → T k) → k && (a && b || z) ≡ a && b && k || z
+step-mark true true true z h = refl
+step-mark true false true z h = refl
+step-mark false b true z h = refl
+step-mark true true false true h = absurd (h tt)
+step-mark true false false true h = absurd (h tt)
+step-mark false b false true h = absurd (h tt)
+step-mark true true false false h = refl
+step-mark true false false false h = refl
+step-mark false b false false h = refl
+
+-- a step adds up what its factors are off and what its rounding drops
+pub step-gap-carry : {U A B : ℕ} {w : Direction} {r x : End} {f g : Fraction}
+    → 0 < U → Probability f → Probability g → EndGap U w A r f → EndGap U w B x g
+    → EndGap U w (A + B + carry (r .value * x .value % U)) (step U w r x) (f ⊗ g)
+unfolding step
+step-gap-carry {U} {w} {r} {x} i p q k l = record {
+  outward = outward-respects refl refl
+      (step-mark (r .exact) (x .exact) (nothing-dropped (r .value * x .value) U) (true-zero r || true-zero x)
+      (zero-drops-nothing U r x))
+      refl refl (product-outward i p q k l);
+  bounded = rounded-at-most w (r .value * x .value) U U i (mul-le-mul (k .bounded) (l .bounded));
+}
+
+-- a step adds less than 1 unit to what its factors are off
+pub step-gap : {U A B : ℕ} {w : Direction} {r x : End} {f g : Fraction}
+    → 0 < U → Probability f → Probability g → EndGap U w A r f → EndGap U w B x g
+    → EndGap U w (A + B + 1) (step U w r x) (f ⊗ g)
+step-gap {U} {r} {x} i p q k l =
+    end-gap-widen (omega (arith, carry-at-most-one (r .value * x .value % U))) (product-probability _ _ p q)
+    (step-gap-carry i p q k l)
+
+-- the first step of a gate rounds nothing
+pub step-start : {U A : ℕ} {w : Direction} {x : End} {g : Fraction}
+    → 0 < U → Probability g → EndGap U w A x g → EndGap U w A (step U w (start U) x) (one ⊗ g)
+unfolding start
+step-start {U} {w} {x} {g} i p k =
+    end-gap-widen (omega (arith, carry-whole (x .value) U)) (product-probability _ _ one-probability p)
+    (step-gap-carry i one-probability p (start-gap U w) k)
+
+-- what is missing to 1 stands in for what is missing to 1, in the opposite direction
+pub complement-gap : {U A : ℕ} {w : Direction} {r : End} {f : Fraction}
+    → Probability f → EndGap U w A r f → EndGap U (opposite w) A (end-complement U r) (complement f)
+unfolding end-complement
+complement-gap {U} {r} {f} p k = record {
+  outward = outward-respects refl refl refl (sym (sub-mul U (r .value) (f .den)))
+      (ap (λ a. a - f .num * U) (mul-comm U (f .den)) ∙ sym (sub-mul (f .den) (f .num) U))
+      (outward-complement (U * f .den) (mul-le-mul-right (f .den) (k .bounded)) (units-at-most U p) (k .outward));
+  bounded = omega arith;
+}

@@ -1,0 +1,46 @@
+-- The rounded end of a tree with E events is less than 2 × E − 1 units off its exact end. Assumes nothing.
+use Prim.Native.Nat.{ℕ, _+_, _-_, _*_, _<_}
+use native.Mathlib.Omega.{arith}
+use mathlib.Core.Path.{_≡_, refl}
+use mathlib.Core.List.{List, _++_}
+use lib.ListN.{length, length-append}
+use Rattle.theory.specs.Fraction.{Fraction, Probability}
+use Rattle.theory.specs.FaultTree.{GateKind, Tree, Inputs, basic, gate, only, more, events, all-events, Each}
+use Rattle.theory.specs.BottomUp.{bottom-up, all-bottom-up}
+use Rattle.theory.specs.Rounding.{Direction, rounded-end, all-ends}
+use Rattle.theory.proofs.BottomUpProbability.{each-left, each-right, all-bottom-up-probable}
+use Rattle.theory.proofs.Rounded.{EndGap, cut-end-gap}
+use Rattle.theory.proofs.RoundedGate.{EndGaps, no-gaps, add-gap, end-gaps-respects, gate-gap}
+
+-- a tree has an event
+mutual
+  pub events-positive : (t : Tree) → 0 < length (events t)
+  events-positive (basic e) = omega arith
+  events-positive (gate k ts) = all-events-positive ts
+
+  pub all-events-positive : (ts : Inputs) → 0 < length (all-events ts)
+  all-events-positive (only t) = events-positive t
+  all-events-positive (more t ts) =
+      let h : 0 < length (events t) = events-positive t in omega (arith, length-append (events t) (all-events ts))
+
+module _ (U : ℕ) (i : 0 < U) (w : Direction) (p : ℕ → Fraction) where
+  mutual
+    -- the rounded end of a tree
+    pub rounded-end-gap : (t : Tree) → Each (λ e. Probability (p e)) (events t)
+        → EndGap U w (2 * length (events t) - 1) (rounded-end U w p t) (bottom-up p t)
+    rounded-end-gap (basic e) h = cut-end-gap U w (p e) (h .0)
+    rounded-end-gap (gate k ts) h =
+        let z : 0 < length (all-events ts) = all-events-positive ts in
+        gate-gap k i (omega arith) (all-bottom-up-probable ts p h) (all-ends-gaps ts h)
+
+    -- the rounded ends of a gate's inputs
+    pub all-ends-gaps : (ts : Inputs) → Each (λ e. Probability (p e)) (all-events ts)
+        → EndGaps U w (2 * length (all-events ts)) (all-ends U w p ts) (all-bottom-up p ts)
+    all-ends-gaps (only t) h =
+        let z : 0 < length (events t) = events-positive t in
+        end-gaps-respects (omega arith) (add-gap (rounded-end-gap t h) no-gaps)
+    all-ends-gaps (more t ts) h =
+        let z : 0 < length (events t) = events-positive t in
+        end-gaps-respects (omega (arith, length-append (events t) (all-events ts)))
+        (add-gap (rounded-end-gap t (each-left _ (events t) (all-events ts) h))
+        (all-ends-gaps ts (each-right _ (events t) (all-events ts) h)))
