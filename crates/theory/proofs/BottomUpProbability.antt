@@ -1,11 +1,12 @@
 -- The bottom-up method stays within the probabilities.
 -- Assumes nothing.
-use Prim.Native.Nat.{ℕ, _*_, _≤_, _<_}
+use Prim.Native.Nat.{ℕ}
 use mathlib.Core.List.{List, [], _∷_, _++_, map}
 use native.Mathlib.Nat.{le-refl, mul-le-mul, mul-pos, sub-le}
 use lib.Dec.{lit<}
 use Rattle.theory.specs.Fraction.{Fraction, Probability, one, _⊗_, complement}
-use Rattle.theory.specs.FaultTree.{GateKind, all, any, Tree, Inputs, basic, gate, only, more, events, all-events, Each}
+use Rattle.theory.specs.FaultTree.{GateKind, all, any, Tree, Inputs, basic, gate, only, more, events, all-events}
+use Rattle.theory.specs.FaultTree.{Each}
 use Rattle.theory.specs.BottomUp.{product, joined, bottom-up, all-bottom-up}
 
 pub each-left : (P : ℕ → Type 0) (xs ys : List ℕ) → Each P (xs ++ ys) → Each P xs

@@ -2,16 +2,19 @@
 -- all lower ends and at all upper ends.
 -- Assumes nothing.
 use Prim.Native.Nat.{ℕ}
-use mathlib.Core.Path.{_≡_, refl, sym, ap, ap₂, _∙_}
+use mathlib.Core.Path.{_≡_, refl, ap, ap₂, _∙_}
 use mathlib.Core.Bool.{Bool, true, false, cond}
-use mathlib.Core.List.{List, [], _∷_, _++_, map}
+use mathlib.Core.List.{List, [], _∷_, map}
 use borrow.Author.Tests.{le-leb}
-use Rattle.theory.specs.Fraction.{Fraction, Probability, _≼_, at-most, one, _⊗_, complement}
-use Rattle.theory.specs.FaultTree.{GateKind, all, any, Tree, Inputs, basic, gate, only, more, events, all-events, Each}
+use Rattle.theory.specs.Fraction.{Fraction, _≼_, at-most, one, _⊗_, complement}
+use Rattle.theory.specs.FaultTree.{GateKind, all, any, Tree, Inputs, basic, gate, only, more, events, all-events}
+use Rattle.theory.specs.FaultTree.{Each}
 use Rattle.theory.specs.BottomUp.{product, joined, bottom-up, all-bottom-up}
-use Rattle.theory.specs.Interval.{Interval, Ordered, lesser, greater, times, minus, unit-interval, interval-product, interval-joined, interval-bottom-up, all-intervals}
-use Rattle.theory.proofs.FractionOrder.{at-most-refl, at-most-trans, product-monotone, complement-antitone, one-minus}
-use Rattle.theory.proofs.BottomUpProbability.{each-left, each-right, one-probability, product-probability, complement-probability}
+use Rattle.theory.specs.Interval.{Interval, Ordered, lesser, greater, times, minus, unit-interval}
+use Rattle.theory.specs.Interval.{interval-product, interval-joined, interval-bottom-up, all-intervals}
+use Rattle.theory.proofs.FractionOrder.{at-most-refl, product-monotone, complement-antitone, one-minus}
+use Rattle.theory.proofs.BottomUpProbability.{each-left, each-right, one-probability, product-probability}
+use Rattle.theory.proofs.BottomUpProbability.{complement-probability}
 
 lesser-first : (f g : Fraction) → f ≼ g → lesser f g ≡ f
 lesser-first f g h = ap (λ (b : Bool). cond b f g) (le-leb _ _ h)

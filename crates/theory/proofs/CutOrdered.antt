@@ -2,7 +2,7 @@
 -- divides once.
 -- Assumes nothing.
 use Prim.Native.Nat.{ℕ, _+_, _-_, _*_, _≤_, _<_}
-use mathlib.Core.Path.{_≡_, sym, ap, _∙_}
+use mathlib.Core.Path.{_≡_}
 use native.Mathlib.Nat.{le-trans, mul-pos, mul-le-mul-right, mul-le-mul-left, sub-add-cancel, sub-le}
 use native.Mathlib.Omega.{arith}
 use Rattle.theory.specs.Interval.{Ordered}

@@ -2,7 +2,8 @@
 use mathlib.Core.Path.{_≡_, refl}
 use mathlib.Core.List.{map}
 use Rattle.theory.specs.Trapezoid.{cut}
-use Rattle.theory.specs.Rounding.{down, up, rounded, nothing-dropped, start, end-complement, true-zero, step, cut-end}
+use Rattle.theory.specs.Rounding.{down, up, rounded, nothing-dropped, start, end-complement, true-zero, step}
+use Rattle.theory.specs.Rounding.{cut-end}
 use Rattle.theory.specs.Examples.{outcome, table}
 
 -- every row's ends and marks are those that the rounded evaluation reports

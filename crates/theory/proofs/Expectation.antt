@@ -5,9 +5,10 @@ use Prim.Native.Nat.{ℕ, _+_, _-_, _*_, _≤_, _<_}
 use mathlib.Core.Path.{_≡_, refl, sym, ap, ap₂, _∙_, fun-ext}
 use mathlib.Core.Bool.{Bool, true, false, not, _||_}
 use mathlib.Core.List.{List, [], _∷_}
-use native.Mathlib.Nat.{add-mul, mul-comm, mul-one, le-refl, le-trans, le-of-eq, add-le-add, mul-le-mul, mul-le-mul-left, mul-le-mul-right, sub-add-cancel, le-dest, mul-pos, one-mul, mul-zero}
+use native.Mathlib.Nat.{add-mul, mul-comm, mul-one, le-refl, le-trans, le-of-eq, add-le-add, mul-le-mul-left}
+use native.Mathlib.Nat.{mul-le-mul-right, sub-add-cancel, le-dest, mul-pos}
 use native.Mathlib.Omega.{arith}
-use lib.Dec.{T, eqb, lit<}
+use lib.Dec.{eqb, lit<}
 use Rattle.theory.specs.Fraction.{Fraction, Probability, _≼_}
 use Rattle.theory.specs.FaultTree.{Each}
 use Rattle.theory.specs.Unreliability.{EventSet, empty-set, with-event, common-denominator}

@@ -1,6 +1,7 @@
 -- Products of fractions regrouped, and what equal fractions have in common. Assumes nothing.
-use Prim.Native.Nat.{ℕ, _+_, _*_, _<_}
-use native.Mathlib.Nat.{mul-assoc, mul-one, one-mul, mul-lt-mul-of-pos-right, lt-of-mul-lt-mul-right, eq-of-mul-eq-mul-right}
+use Prim.Native.Nat.{ℕ, _*_, _<_}
+use native.Mathlib.Nat.{mul-assoc, mul-one, one-mul}
+use native.Mathlib.Nat.{mul-lt-mul-of-pos-right, lt-of-mul-lt-mul-right, eq-of-mul-eq-mul-right}
 use native.Mathlib.Omega.{arith}
 use mathlib.Core.Path.{_≡_, ap}
 use Rattle.theory.specs.Fraction.{Fraction, _≺_, _≈_, one, _⊗_, plus-units}
@@ -9,9 +10,11 @@ use Rattle.theory.specs.Fraction.{Fraction, _≺_, _≈_, one, _⊗_, pl
 fraction-path : {f g : Fraction} → f .num ≡ g .num → f .den ≡ g .den → f ≡ g
 fraction-path p q = λ i. record { num = p i; den = q i }
 
+-- a product may be grouped either way
 pub times-assoc : (f g h : Fraction) → f ⊗ g ⊗ h ≡ f ⊗ (g ⊗ h)
 times-assoc f g h = fraction-path (mul-assoc (f .num) (g .num) (h .num)) (mul-assoc (f .den) (g .den) (h .den))
 
+-- a product with 1, on either side
 pub times-one : (f : Fraction) → f ⊗ one ≡ f
 times-one f = fraction-path (mul-one (f .num)) (mul-one (f .den))
 

@@ -2,10 +2,11 @@
 -- equal fractions stand in it.
 -- Assumes nothing.
 use Prim.Native.Nat.{ℕ, _+_, _-_, _*_, _≤_, _<_}
-use mathlib.Core.Path.{_≡_, sym, ap, ap₂, _∙_}
-use native.Mathlib.Nat.{le-trans, le-of-eq, mul-le-mul, mul-le-mul-right, le-of-mul-le-mul-right, sub-add-cancel, mul-one, one-mul}
+use mathlib.Core.Path.{_≡_, sym, ap, ap₂}
+use native.Mathlib.Nat.{le-of-eq, mul-le-mul, mul-le-mul-right, le-of-mul-le-mul-right, sub-add-cancel, mul-one}
+use native.Mathlib.Nat.{one-mul}
 use native.Mathlib.Omega.{arith}
-use Rattle.theory.specs.Fraction.{Fraction, Probability, _≼_, _≺_, _≈_, one, _⊗_, _⊖_, complement}
+use Rattle.theory.specs.Fraction.{Fraction, Probability, _≼_, _≈_, one, _⊗_, _⊖_, complement}
 
 pub at-most-trans : (f g h : Fraction) → 0 < g .den → f ≼ g → g ≼ h → f ≼ h
 at-most-trans f g h pos l r =

@@ -17,6 +17,7 @@ pub mod CutOrdered
 pub mod MeanRising
 -- Demand 3: the rounded ends.
 pub mod Gap
+pub mod GapProduct
 pub mod Outward
 pub mod RoundingMeaning
 pub mod Rounded

@@ -1,12 +1,13 @@
 -- The mean of opinions is ordered as a ≤ b = c ≤ d ≤ 1 wherever somebody with a score spoke.
 -- Assumes nothing.
-use Prim.Native.Nat.{ℕ, zero-le, _+_, _*_, _≤_, _<_}
+use Prim.Native.Nat.{ℕ, zero-le, _*_, _≤_, _<_}
 use mathlib.Core.List.{List, [], _∷_}
 use native.Mathlib.Nat.{le-refl, add-le-add, mul-le-mul-left, mul-pos}
 use native.Mathlib.Omega.{arith}
 use lib.Dec.{lit<, lit≤}
 use Rattle.theory.specs.Trapezoid.{Rising}
-use Rattle.theory.specs.Opinion.{Term, very-low, low, fairly-low, medium, fairly-high, high, very-high, term-a, term-b, term-d, Opinion, says, silent, spoken, weighted, mean}
+use Rattle.theory.specs.Opinion.{Term, very-low, low, fairly-low, medium, fairly-high, high, very-high, term-a}
+use Rattle.theory.specs.Opinion.{term-b, term-d, Opinion, says, silent, spoken, weighted, mean}
 
 weighted-monotone : (f g : Term → ℕ) → ((t : Term) → f t ≤ g t) → (os : List Opinion) → weighted f os ≤ weighted g os
 weighted-monotone f g h [] = zero-le

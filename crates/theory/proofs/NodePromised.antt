@@ -2,15 +2,13 @@
 -- unreliability lies in the reported interval.
 -- Assumes nothing.
 use Prim.Native.Nat.{ℕ, _<_}
-use lib.Dec.{T}
 use Rattle.theory.specs.Fraction.{Fraction, _≼_, in-units}
-use Rattle.theory.specs.FaultTree.{events, beneath, contains, Each}
+use Rattle.theory.specs.FaultTree.{events, Each}
 use Rattle.theory.specs.Unreliability.{unreliability}
 use Rattle.theory.specs.Interval.{Interval, Inside, Ordered}
 use Rattle.theory.specs.Rounding.{Direction, down, up, reported}
 use Rattle.theory.specs.Promise.{Promised, exact-end}
 use Rattle.theory.specs.NodeTable.{Table, tree-of, event-count, Numbered, Ranked, Linked-once}
-use Rattle.theory.proofs.Distinct.{each-of-contained}
 use Rattle.theory.proofs.Expectation.{each-map}
 use Rattle.theory.proofs.UnreliabilityIsBottomUp.{each-beneath}
 use Rattle.theory.proofs.DistinctEvents.{each-event-below, events-distinct, events-few}

@@ -6,8 +6,9 @@ use mathlib.Core.Bool.{Bool, true, _&&_, _||_, and-comm}
 use mathlib.Core.Path.{_≡_, sym}
 use lib.Dec.{eqb}
 use Rattle.theory.specs.Rounding.{Direction, down, up, opposite}
-use Rattle.theory.proofs.Gap.{Gap, gap-widen, gap-join, gap-scale, gap-cancel, gap-complement, gap-product}
+use Rattle.theory.proofs.Gap.{Gap, gap-widen, gap-join, gap-scale, gap-cancel, gap-complement}
 use Rattle.theory.proofs.Gap.{exact-gap, gap-zero-lower, gap-zero-upper}
+use Rattle.theory.proofs.GapProduct.{gap-product}
 
 -- of a number and the one that it stands in for, the lower
 abbrev pub lower-of : Direction → ℕ → ℕ → ℕ
@@ -42,7 +43,8 @@ outward-widen l p g = record { gap = gap-widen l p (g .gap) }
 pub outward-join : {w : Direction} {A B d v y x : ℕ} {m n : Bool}
     → Outward w A d m v y → Outward w B d n y x → Outward w (A + B) d (m && n) v x
 outward-join {w = down} g h = record { gap = gap-join (g .gap) (h .gap) }
-outward-join {w = up} {A} {B} {m} {n} g h = rw (add-comm A B, and-comm m n) (record { gap = gap-join (h .gap) (g .gap) })
+outward-join {w = up} {A} {B} {m} {n} g h =
+    rw (add-comm A B, and-comm m n) (record { gap = gap-join (h .gap) (g .gap) })
 
 -- all of it times a factor
 pub outward-scale : {w : Direction} {A d v x : ℕ} {m : Bool} (k : ℕ)
@@ -68,6 +70,8 @@ pub outward-product : {w : Direction} {A d v x B e u y : ℕ} {m n : Bool} (U : 
     → Outward w A d m v x → Outward w B e n u y
     → Outward w (A + B) (U * (d * e)) (m && n || (m && eqb v 0 || n && eqb u 0)) (v * u) (x * y)
 outward-product {w = down} {m} {n} U i p q a b c f g h =
-    rw (gap-zero-lower m (g .gap), gap-zero-lower n (h .gap)) (record { gap = gap-product U i p q a f (g .gap) (h .gap) })
+    rw (gap-zero-lower m (g .gap), gap-zero-lower n (h .gap))
+    (record { gap = gap-product U i p q a f (g .gap) (h .gap) })
 outward-product {w = up} {m} {n} U i p q a b c f g h =
-    rw (gap-zero-upper m (g .gap), gap-zero-upper n (h .gap)) (record { gap = gap-product U i p q b c (g .gap) (h .gap) })
+    rw (gap-zero-upper m (g .gap), gap-zero-upper n (h .gap))
+    (record { gap = gap-product U i p q b c (g .gap) (h .gap) })

@@ -1,11 +1,11 @@
 -- The rounded end of a tree keeps what Promise.antt says of an end, and the promise holds of every equal fraction.
 -- Assumes nothing.
-use Prim.Native.Nat.{ℕ, _+_, _-_, _*_, _≤_, _<_}
+use Prim.Native.Nat.{ℕ, _-_, _*_, _≤_, _<_}
 use native.Mathlib.Nat.{mul-pos, mul-lt-mul-of-pos-right}
 use native.Mathlib.Omega.{arith}
-use mathlib.Core.Path.{_≡_, sym}
+use mathlib.Core.Path.{sym}
 use lib.ListN.{length}
-use Rattle.theory.specs.Fraction.{Fraction, Probability, _≺_, _≈_, in-units, plus-units}
+use Rattle.theory.specs.Fraction.{Fraction, Probability, _≈_, in-units, plus-units}
 use Rattle.theory.specs.FaultTree.{Tree, events, Each}
 use Rattle.theory.specs.BottomUp.{bottom-up}
 use Rattle.theory.specs.Rounding.{Direction, down, up, End, rounded-end}

@@ -2,13 +2,13 @@
 -- alpha-cut of 004 (demand 2), and that the top probability lies in the reported interval.
 -- Assumes nothing.
 use Prim.Native.Nat.{ℕ, _≤_, _<_}
-use mathlib.Core.Path.{_≡_, refl, sym, ap, _∙_}
+use mathlib.Core.Path.{sym}
 use mathlib.Core.Bool.{Bool, true, false, not}
 use native.Mathlib.Nat.{le-refl, le-of-lt, le-of-eq}
 use lib.Dec.{T}
 use lib.ListN.{length}
 use Rattle.theory.specs.Fraction.{Fraction, Probability, _≼_, _≺_, _≈_, in-units}
-use Rattle.theory.specs.FaultTree.{Tree, events, beneath, Each}
+use Rattle.theory.specs.FaultTree.{Tree, events, Each}
 use Rattle.theory.specs.Unreliability.{unreliability}
 use Rattle.theory.specs.BottomUp.{bottom-up}
 use Rattle.theory.specs.Interval.{Interval, Ordered, interval-bottom-up}

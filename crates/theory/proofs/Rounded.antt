@@ -1,19 +1,20 @@
--- The gap between a rounded end and the exact fraction that it stands in for, through each definition of Rounding.antt.
--- No other file opens them. Assumes nothing.
-use Prim.Native.Nat.{ℕ, zero, suc, _+_, _-_, _*_, _%_, _≤_, _<_}
-use native.Mathlib.Nat.{mul-le-mul, mul-le-mul-right, mul-pos, zero-mul, mul-zero, mul-comm}
+-- The gap between a rounded end and the exact fraction that it stands in for, by each definition that builds an end: no
+-- other file opens `start`, `step`, `end-complement` or `cut-end`. Assumes nothing.
+use Prim.Native.Nat.{ℕ, _+_, _-_, _*_, _%_, _≤_, _<_}
+use native.Mathlib.Nat.{mul-le-mul, mul-le-mul-right, mul-pos, zero-mul, mul-zero, mul-comm, add-comm}
 use native.Mathlib.Omega.{arith}
 use mathlib.Core.Path.{_≡_, refl, ap, ap₂, sym, _∙_}
 use mathlib.Core.Bool.{Bool, true, false, _&&_, _||_}
 use lib.Dec.{T, eqb, eqb→eq}
 use Rattle.theory.specs.Fraction.{Fraction, Probability, one, _⊗_, complement}
-use Rattle.theory.specs.Rounding.{Direction, down, up, opposite, carry, rounded, nothing-dropped}
+use Rattle.theory.specs.Rounding.{Direction, opposite, carry, rounded, nothing-dropped}
 use Rattle.theory.specs.Rounding.{End, start, end-complement, true-zero, step, cut-end}
 use Rattle.theory.proofs.Missing.{sub-mul, eqb-zero-times, either-of-or, both-of-and}
-use Rattle.theory.proofs.Outward.{Outward, outward-respects, outward-exact, outward-widen, outward-join, outward-scale}
-use Rattle.theory.proofs.Outward.{outward-cancel, outward-complement, outward-product}
+use Rattle.theory.proofs.Outward.{Outward, outward-respects, outward-exact, outward-widen, outward-join}
+use Rattle.theory.proofs.Outward.{outward-scale, outward-cancel, outward-complement, outward-product}
 use Rattle.theory.proofs.BottomUpProbability.{one-probability, product-probability}
-use Rattle.theory.proofs.RoundingMeaning.{rounded-outward, rounded-at-most, carry-at-most-one, carry-whole, nothing-dropped-zero}
+use Rattle.theory.proofs.RoundingMeaning.{rounded-outward, rounded-at-most, carry-at-most-one}
+use Rattle.theory.proofs.RoundingMeaning.{carry-whole, nothing-dropped-zero}
 
 -- the end r, of which U make 1, stands in for x, less than A units off in the direction w where A is above 0
 pub record EndGap (U : ℕ) (w : Direction) (A : ℕ) (r : End) (x : Fraction) : Type 0 where
@@ -52,34 +53,48 @@ pub start-gap : (U : ℕ) (w : Direction) → EndGap U w 0 (start U) one
 unfolding start
 start-gap U w = record { outward = outward-exact w 1 (omega arith); bounded = omega arith }
 
--- a rounded product of ends stands in for the product of what they stand in for
+-- the product of two ends stands in for the product of what they stand in for
 product-outward : {U A B : ℕ} {w : Direction} {r x : End} {f g : Fraction}
     → 0 < U → Probability f → Probability g → EndGap U w A r f → EndGap U w B x g
-    → Outward w (A + B + carry (r .value * x .value % U)) (f .den * g .den)
-    (nothing-dropped (r .value * x .value) U && (r .exact && x .exact || (true-zero r || true-zero x)))
-    (rounded w (r .value * x .value) U * (f .den * g .den)) (f .num * g .num * U)
+    → let mark : Bool = r .exact && x .exact || (true-zero r || true-zero x) in
+    Outward w (A + B) (U * (f .den * g .den)) mark (f .den * g .den * (r .value * x .value)) (f .num * U * (g .num * U))
 unfolding true-zero
-product-outward {U} {w} {r} {x} {f} {g} i p q k l =
-    outward-cancel U i (outward-respects (omega arith) refl refl (omega arith) (omega arith)
-    (outward-join
-    (outward-respects refl (omega arith) refl refl refl
-    (outward-scale (f .den * g .den) (mul-pos (p .positive) (q .positive))
-    (rounded-outward w (r .value * x .value) U i)))
-    (outward-respects refl refl
-    (ap₂ (λ a b. r .exact && x .exact || (r .exact && a || x .exact && b))
-    (eqb-zero-times (r .value) (f .den) (p .positive)) (eqb-zero-times (x .value) (g .den) (q .positive)))
-    (omega arith) refl
-    (outward-product U i (p .positive) (q .positive)
-    (mul-le-mul-right (f .den) (k .bounded)) (units-at-most U p)
-    (mul-le-mul-right (g .den) (l .bounded)) (units-at-most U q)
-    (k .outward) (l .outward)))))
+product-outward {U} {r} {x} {f} {g} i p q k l =
+    let zero-r : eqb (r .value * f .den) 0 ≡ eqb (r .value) 0 = eqb-zero-times (r .value) (f .den) (p .positive) in
+    let zero-x : eqb (x .value * g .den) 0 ≡ eqb (x .value) 0 = eqb-zero-times (x .value) (g .den) (q .positive) in
+    let within-r : r .value * f .den ≤ U * f .den = mul-le-mul-right (f .den) (k .bounded) in
+    let within-x : x .value * g .den ≤ U * g .den = mul-le-mul-right (g .den) (l .bounded) in
+    outward-respects refl refl
+    (ap₂ (λ a b. r .exact && x .exact || (r .exact && a || x .exact && b)) zero-r zero-x) (omega arith) refl
+    (outward-product U i (p .positive) (q .positive) within-r (units-at-most U p) within-x (units-at-most U q)
+    (k .outward) (l .outward))
 
--- an end that is marked and 0 makes a product that drops nothing
-zero-drops-nothing : (U : ℕ) (r x : End) → T (true-zero r || true-zero x) → T (nothing-dropped (r .value * x .value) U)
+-- and so does their rounded product
+rounded-product-outward : {U A B : ℕ} {w : Direction} {r x : End} {f g : Fraction}
+    → 0 < U → Probability f → Probability g → EndGap U w A r f → EndGap U w B x g
+    → let a : ℕ = r .value * x .value in
+    let mark : Bool = nothing-dropped a U && (r .exact && x .exact || (true-zero r || true-zero x)) in
+    Outward w (A + B + carry (a % U)) (f .den * g .den) mark (rounded w a U * (f .den * g .den)) (f .num * g .num * U)
+rounded-product-outward {U} {A} {B} {w} {r} {x} {f} {g} i p q k l =
+    let a : ℕ = r .value * x .value in
+    let d : ℕ = f .den * g .den in
+    let rounding : Outward w (carry (a % U)) (U * d) (nothing-dropped a U) (d * (rounded w a U * U)) (d * a)
+    = outward-respects refl (mul-comm d U) refl refl refl
+    (outward-scale d (mul-pos (p .positive) (q .positive)) (rounded-outward w a U i)) in
+    outward-cancel U i
+    (outward-respects (add-comm (carry (a % U)) (A + B)) refl refl (omega arith) (omega arith)
+    (outward-join rounding (product-outward i p q k l)))
+
+-- an end that is marked and 0 is 0
+true-zero-value : (r : End) → T (true-zero r) → r .value ≡ 0
 unfolding true-zero
+true-zero-value r t = eqb→eq (r .value) 0 (both-of-and (r .exact) (eqb (r .value) 0) t .1)
+
+-- its products drop nothing
+zero-drops-nothing : (U : ℕ) (r x : End) → T (true-zero r || true-zero x) → T (nothing-dropped (r .value * x .value) U)
 zero-drops-nothing U r x = either-of-or (true-zero r) (true-zero x)
-    (λ t. nothing-dropped-zero _ U (rw (eqb→eq (r .value) 0 (both-of-and (r .exact) (eqb (r .value) 0) t .1)) (zero-mul _)))
-    (λ t. nothing-dropped-zero _ U (rw (eqb→eq (x .value) 0 (both-of-and (x .exact) (eqb (x .value) 0) t .1)) (mul-zero _)))
+    (λ t. nothing-dropped-zero _ U (rw (true-zero-value r t) (zero-mul (x .value))))
+    (λ t. nothing-dropped-zero _ U (rw (true-zero-value x t) (mul-zero (r .value))))
 
 -- the mark of a step, written otherwise: nothing is dropped, and both are marked or there is a marked 0
 step-mark : (a b k z : Bool) → (T z → T k) → k && (a && b || z) ≡ a && b && k || z
@@ -102,7 +117,7 @@ step-gap-carry {U} {w} {r} {x} i p q k l = record {
   outward = outward-respects refl refl
       (step-mark (r .exact) (x .exact) (nothing-dropped (r .value * x .value) U) (true-zero r || true-zero x)
       (zero-drops-nothing U r x))
-      refl refl (product-outward i p q k l);
+      refl refl (rounded-product-outward i p q k l);
   bounded = rounded-at-most w (r .value * x .value) U U i (mul-le-mul (k .bounded) (l .bounded));
 }
 

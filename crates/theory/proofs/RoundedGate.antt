@@ -1,13 +1,13 @@
--- The gap of a gate's end by those of its inputs' ends. What each input is off, and 1 more for the rounding at its step, add
--- up; the first step rounds nothing. Assumes nothing.
-use Prim.Native.Nat.{ℕ, _+_, _-_, _*_, _<_}
+-- The gap of a gate's end by those of its inputs' ends. What each input is off, and 1 more for the rounding at its
+-- step, add up; the first step rounds nothing. Assumes nothing.
+use Prim.Native.Nat.{ℕ, _+_, _-_, _<_}
 use native.Mathlib.Omega.{arith}
 use mathlib.Core.Path.{_≡_, refl, sym, _∙_}
 use mathlib.Core.List.{List, [], _∷_, map}
 use Rattle.theory.specs.Fraction.{Fraction, Probability, _⊗_, complement}
 use Rattle.theory.specs.FaultTree.{GateKind, all, any}
 use Rattle.theory.specs.BottomUp.{product, joined}
-use Rattle.theory.specs.Rounding.{Direction, down, up, opposite, End, start, end-complement, step, run, gate-end}
+use Rattle.theory.specs.Rounding.{Direction, down, up, opposite, End, start, end-complement, run, gate-end}
 use Rattle.theory.proofs.FractionEqual.{times-assoc, times-one, one-times}
 use Rattle.theory.proofs.BottomUpProbability.{All-probable, one-probability, product-probability}
 use Rattle.theory.proofs.BottomUpProbability.{products-probable, complements-probable}

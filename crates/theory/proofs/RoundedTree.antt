@@ -1,11 +1,9 @@
 -- The rounded end of a tree with E events is less than 2 × E − 1 units off its exact end. Assumes nothing.
-use Prim.Native.Nat.{ℕ, _+_, _-_, _*_, _<_}
+use Prim.Native.Nat.{ℕ, _-_, _*_, _<_}
 use native.Mathlib.Omega.{arith}
-use mathlib.Core.Path.{_≡_, refl}
-use mathlib.Core.List.{List, _++_}
 use lib.ListN.{length, length-append}
 use Rattle.theory.specs.Fraction.{Fraction, Probability}
-use Rattle.theory.specs.FaultTree.{GateKind, Tree, Inputs, basic, gate, only, more, events, all-events, Each}
+use Rattle.theory.specs.FaultTree.{Tree, Inputs, basic, gate, only, more, events, all-events, Each}
 use Rattle.theory.specs.BottomUp.{bottom-up, all-bottom-up}
 use Rattle.theory.specs.Rounding.{Direction, rounded-end, all-ends}
 use Rattle.theory.proofs.BottomUpProbability.{each-left, each-right, all-bottom-up-probable}

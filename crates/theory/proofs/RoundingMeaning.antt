@@ -1,11 +1,11 @@
--- What rounding means: the nearest whole number on the safe side. It is monotone, exact on whole numbers, and the same for
--- a fraction however written. Assumes nothing.
+-- What rounding means: the nearest whole number on the safe side. It is monotone, exact on whole numbers, and the same
+-- however the fraction is written. Assumes nothing.
 use Prim.Native.Nat.{ℕ, zero, suc, _+_, _*_, _/_, _%_, _≤_, _<_}
-use native.Mathlib.Nat.{div-add-mod', mod-lt, mul-div-mul-right, lt-of-mul-lt-mul-right, le-of-mul-le-mul-right, mul-le-mul-right}
-use native.Mathlib.Nat.{mul-pos, zero-mul, mul-suc, add-suc, zero-mod, mul-mod-right, le-refl, le-trans, le-antisymm}
+use native.Mathlib.Nat.{div-add-mod', mod-lt, mul-div-mul-right, lt-of-mul-lt-mul-right, le-of-mul-le-mul-right}
+use native.Mathlib.Nat.{mul-le-mul-right, mul-pos, zero-mul, mul-suc, add-suc, zero-mod, mul-mod-right}
+use native.Mathlib.Nat.{le-refl, le-trans, le-antisymm}
 use native.Mathlib.Omega.{arith}
-use mathlib.Core.Path.{_≡_, refl, ap, sym, _∙_}
-use mathlib.Core.Bool.{Bool, true, false, not}
+use mathlib.Core.Path.{_≡_, ap, sym, _∙_}
 use lib.Dec.{T, eqb}
 use Rattle.theory.specs.Rounding.{Direction, down, up, carry, rounded, nothing-dropped}
 use Rattle.theory.proofs.Gap.{Gap}
@@ -13,37 +13,13 @@ use Rattle.theory.proofs.Outward.{Outward, lower-of, upper-of, outward-
 
 -- a quotient without its remainder
 quotient-gap : (q r b a : ℕ) → q * b + r ≡ a → r < b → Gap (carry r) b (eqb (carry r) 0) (q * b) a
-quotient-gap q zero b a e l = record {
-  order = omega arith;
-  near = omega arith;
-  strictly-near = omega arith;
-  marked = omega arith;
-  unmarked = λ t. absurd t;
-}
-quotient-gap q (suc r) b a e l = record {
-  order = omega arith;
-  near = omega arith;
-  strictly-near = omega arith;
-  marked = λ t. absurd t;
-  unmarked = λ t. omega arith;
-}
+quotient-gap q zero b a e l = omega arith
+quotient-gap q (suc r) b a e l = omega arith
 
 -- a quotient with 1 more for its remainder
 quotient-gap-up : (q r b a : ℕ) → q * b + r ≡ a → r < b → Gap (carry r) b (eqb (carry r) 0) a ((q + carry r) * b)
-quotient-gap-up q zero b a e l = record {
-  order = omega arith;
-  near = omega arith;
-  strictly-near = omega arith;
-  marked = λ t. omega arith;
-  unmarked = λ t. absurd t;
-}
-quotient-gap-up q (suc r) b a e l = record {
-  order = omega arith;
-  near = omega arith;
-  strictly-near = omega arith;
-  marked = λ t. absurd t;
-  unmarked = λ t. omega arith;
-}
+quotient-gap-up q zero b a e l = omega arith
+quotient-gap-up q (suc r) b a e l = omega arith
 
 -- rounding keeps to its side and less than 1 off, not at all off where nothing is dropped
 pub rounded-outward : (w : Direction) (a b : ℕ) → 0 < b
@@ -84,13 +60,15 @@ rounded-is-rounded down a b p =
     let r : ℕ = rounded down a b in
     record {
       safe = rounded-outward down a b p .gap .order;
-      nearest = λ u s. omega (arith, lt-of-mul-lt-mul-right b {m = u} {n = suc r} (omega (arith, rounded-near down a b p)));
+      nearest = λ u s.
+          omega (arith, lt-of-mul-lt-mul-right b {m = u} {n = suc r} (omega (arith, rounded-near down a b p)));
     }
 rounded-is-rounded up a b p =
     let r : ℕ = rounded up a b in
     record {
       safe = rounded-outward up a b p .gap .order;
-      nearest = λ u s. omega (arith, lt-of-mul-lt-mul-right b {m = r} {n = suc u} (omega (arith, rounded-near up a b p)));
+      nearest = λ u s.
+          omega (arith, lt-of-mul-lt-mul-right b {m = r} {n = suc u} (omega (arith, rounded-near up a b p)));
     }
 
 -- there is only one such number
@@ -141,8 +119,9 @@ rounded-scale w a b c p q = sym (rounded-unique w (a * c) (b * c) (rounded w a b
 -- the remainder grows with both numbers
 mod-scale : (a b c : ℕ) → 0 < c → a * c % (b * c) ≡ a % b * c
 mod-scale a b c q =
-    let whole : a / b * (b * c) + a * c % (b * c) ≡ a * c = rw (mul-div-mul-right a b q) at (div-add-mod' (a * c) (b * c)) in
-    omega (arith, whole, ap (λ n. n * c) (div-add-mod' a b))
+    let scaled : a / b * (b * c) + a * c % (b * c) ≡ a * c
+    = rw (mul-div-mul-right a b q) at (div-add-mod' (a * c) (b * c)) in
+    omega (arith, scaled, ap (λ n. n * c) (div-add-mod' a b))
 
 -- a factor above 0 leaves the carry as it is
 carry-scale : (r c : ℕ) → 0 < c → carry (r * c) ≡ carry r

@@ -1,23 +1,29 @@
 -- The unreliability, the sum over all cut sets, is what the bottom-up method reckons (demand 2), for trees in which an event
 -- that stands under two inputs of one gate has the probability 0 or 1. Trees with distinct events meet that outright.
 -- Assumes nothing.
-use Prim.Native.Nat.{ℕ, _+_, _-_, _*_, _≤_, _<_}
+use Prim.Native.Nat.{ℕ, _+_, _-_, _*_, _<_}
 use mathlib.Core.Path.{_≡_, refl, sym, ap, ap₂, _∙_, fun-ext}
 use mathlib.Core.Bool.{Bool, true, false, not, _&&_, _||_}
-use mathlib.Core.List.{List, [], _∷_, _++_, map}
+use mathlib.Core.List.{List, [], _∷_, map}
 use mathlib.Core.Logic.{_⊎_, inl, inr}
-use native.Mathlib.Nat.{mul-one, one-mul, mul-zero, zero-mul, add-zero, zero-add, mul-comm, sub-add-cancel, eq-of-mul-eq-mul-right}
+use native.Mathlib.Nat.{mul-one, one-mul, mul-zero, zero-mul, sub-add-cancel, eq-of-mul-eq-mul-right}
 use native.Mathlib.Omega.{arith}
 use lib.Dec.{T, T-not, eqb}
 use borrow.Author.Tests.{eqb-true, eqb-false, ne-eqb, eq-eqb}
 use Rattle.theory.specs.Fraction.{Fraction, Probability, one, _⊗_, complement, _≈_}
-use Rattle.theory.specs.FaultTree.{GateKind, all, any, Tree, Inputs, basic, gate, only, more, events, all-events, contains, beneath, Each}
-use Rattle.theory.specs.Unreliability.{EventSet, empty-set, with-event, every, some, verdict, fails, which-fail, common-denominator, unreliability}
+use Rattle.theory.specs.FaultTree.{GateKind, all, any, Tree, Inputs, basic, gate, only, more, events, all-events}
+use Rattle.theory.specs.FaultTree.{contains, beneath, Each}
+use Rattle.theory.specs.Unreliability.{EventSet, every, some, verdict, fails, which-fail, common-denominator}
+use Rattle.theory.specs.Unreliability.{unreliability}
 use Rattle.theory.specs.BottomUp.{product, joined, bottom-up, all-bottom-up}
-use Rattle.theory.proofs.Distinct.{Distinct, each-once-distinct, contains-each-once, each-of-contained, contained-of-each, distinct-append}
-use Rattle.theory.proofs.Expectation.{bit, expect, Ignores, Probable, Separated, left, right, never, always, Independent-at, each-map, separated-map, denominator-positive, expect-one, expect-ignored, expect-not, expect-product}
+use Rattle.theory.proofs.Distinct.{Distinct, each-once-distinct, contains-each-once, each-of-contained}
+use Rattle.theory.proofs.Distinct.{contained-of-each, distinct-append}
+use Rattle.theory.proofs.Expectation.{bit, expect, Ignores, Probable, Separated, left, right, never, always}
+use Rattle.theory.proofs.Expectation.{each-map, separated-map, denominator-positive, expect-one, expect-ignored}
+use Rattle.theory.proofs.Expectation.{expect-not, expect-product}
 use Rattle.theory.proofs.CutSetSum.{sum-is-expectation}
-use Rattle.theory.proofs.BottomUpProbability.{each-left, each-right, All-probable, products-probable, complements-probable, bottom-up-probability, all-bottom-up-probable}
+use Rattle.theory.proofs.BottomUpProbability.{each-left, each-right, All-probable, products-probable}
+use Rattle.theory.proofs.BottomUpProbability.{complements-probable, all-bottom-up-probable}
 use Rattle.theory.proofs.Independence.{or-lacks, fails-ignores, lacks-append}
 
 -- the test f holds with the probability x, over the sets of the events es

@@ -2,20 +2,19 @@
 -- their cuts, it lies between the exact ends.
 -- Assumes nothing.
 use Prim.Native.Nat.{ℕ, _*_, _≤_}
-use mathlib.Core.Path.{_≡_, sym}
 use mathlib.Core.List.{List, [], _∷_}
 use native.Mathlib.Nat.{le-trans, le-of-eq, le-add-right, mul-le-mul-right, le-of-mul-le-mul-right}
 use native.Mathlib.Omega.{arith}
 use Rattle.theory.specs.Fraction.{Fraction, Probability, _≼_}
-use Rattle.theory.specs.FaultTree.{Tree, events, beneath, Each}
+use Rattle.theory.specs.FaultTree.{Tree, beneath, Each}
 use Rattle.theory.specs.Unreliability.{fails, unreliability}
 use Rattle.theory.specs.Interval.{Interval, Inside, Ordered}
-use Rattle.theory.specs.Rounding.{down, up, end-of}
+use Rattle.theory.specs.Rounding.{down, up}
 use Rattle.theory.specs.Promise.{exact-end, Choice}
-use Rattle.theory.proofs.Expectation.{bit, expect, Probable, Raised, each-map, denominator-positive, expect-not, expect-rises}
+use Rattle.theory.proofs.Expectation.{bit, Probable, Raised, each-map, denominator-positive, expect-not}
+use Rattle.theory.proofs.Expectation.{expect-rises}
 use Rattle.theory.proofs.Independence.{fails-rises}
 use Rattle.theory.proofs.UnreliabilityIsBottomUp.{unreliability-expected}
-use Rattle.theory.proofs.FractionOrder.{at-most-trans}
 
 pub unreliability-probability : (p : ℕ → Fraction) (t : Tree) → Each (Probable p) (beneath t) → Probability (unreliability p t)
 unreliability-probability p t h =

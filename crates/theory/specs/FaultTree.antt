@@ -1,6 +1,6 @@
 -- Fault trees (004, Definition 5, for trees): a basic event with its number, or a gate over at least one input.
 use Prim.Native.Nat.{ℕ}
-use mathlib.Core.Bool.{Bool, true, false, cond, _||_}
+use mathlib.Core.Bool.{Bool, false, cond, _||_}
 use mathlib.Core.List.{List, [], _∷_, _++_}
 use lib.Dec.{eqb}
 

@@ -2,7 +2,7 @@
 use Prim.Native.Nat.{ℕ, _-_, _*_}
 use mathlib.Core.Bool.{not}
 use lib.Dec.{T}
-use Rattle.theory.specs.Fraction.{Fraction, _≼_, _≺_, _≈_, in-units, plus-units}
+use Rattle.theory.specs.Fraction.{Fraction, _≺_, _≈_, in-units, plus-units}
 use Rattle.theory.specs.FaultTree.{Tree, Each, beneath}
 use Rattle.theory.specs.Unreliability.{unreliability}
 use Rattle.theory.specs.Interval.{Interval, Inside}
