@@ -1,6 +1,5 @@
--- The alpha-cut that equation (6) of 004 gives a node from the events' alpha-cuts has as its ends the bottom-up reckoning at
--- all lower ends and at all upper ends.
--- Assumes nothing.
+-- The alpha-cut that equation (6) of 004 gives a node from the events' alpha-cuts has as its ends the bottom-up
+-- reckoning at all lower ends and at all upper ends. Assumes nothing.
 use Prim.Native.Nat.{ℕ}
 use mathlib.Core.Path.{_≡_, refl, ap, ap₂, _∙_}
 use mathlib.Core.Bool.{Bool, true, false, cond}
@@ -13,15 +12,18 @@ use Rattle.theory.specs.BottomUp.{product, joined, bottom-up, all-bottom
 use Rattle.theory.specs.Interval.{Interval, Ordered, lesser, greater, times, minus, unit-interval}
 use Rattle.theory.specs.Interval.{interval-product, interval-joined, interval-bottom-up, all-intervals}
 use Rattle.theory.proofs.FractionOrder.{at-most-refl, product-monotone, complement-antitone, one-minus}
-use Rattle.theory.proofs.BottomUpProbability.{each-left, each-right, one-probability, product-probability}
-use Rattle.theory.proofs.BottomUpProbability.{complement-probability}
+use Rattle.theory.proofs.Each.{each-left, each-right}
+use Rattle.theory.proofs.BottomUpProbability.{one-probability, product-probability, complement-probability}
 
+-- the lesser of two fractions in order is the first
 lesser-first : (f g : Fraction) → f ≼ g → lesser f g ≡ f
 lesser-first f g h = ap (λ (b : Bool). cond b f g) (le-leb _ _ h)
 
+-- the greater of two fractions in order is the second
 greater-second : (f g : Fraction) → f ≼ g → greater f g ≡ g
 greater-second f g h = ap (λ (b : Bool). cond b g f) (le-leb _ _ h)
 
+-- what is at most two fractions is at most the lesser
 below-lesser : (f g h : Fraction) → f ≼ g → f ≼ h → f ≼ lesser g h
 below-lesser f g h l r = go (at-most g h)
   where
@@ -34,36 +36,46 @@ abbrev between : Fraction → Fraction → Interval
 between f g = record { lower = f; upper = g }
 
 -- the product of intervals of probabilities multiplies lower ends with lower ends and upper ends with upper ends
-times-ends : (x y : Interval) → Ordered x → Ordered y → times x y ≡ between (x .lower ⊗ y .lower) (x .upper ⊗ y .upper)
+times-ends : (x y : Interval) → Ordered x → Ordered y
+    → times x y ≡ between (x .lower ⊗ y .lower) (x .upper ⊗ y .upper)
 times-ends x y hx hy =
-    let ll = x .lower ⊗ y .lower in
-    let lu = x .lower ⊗ y .upper in
-    let ul = x .upper ⊗ y .lower in
-    let uu = x .upper ⊗ y .upper in
-    let ll-lu : ll ≼ lu = product-monotone (x .lower) (x .lower) (y .lower) (y .upper) (at-most-refl (x .lower)) (hy .rising) in
-    let ll-ul : ll ≼ ul = product-monotone (x .lower) (x .upper) (y .lower) (y .lower) (hx .rising) (at-most-refl (y .lower)) in
-    let lu-uu : lu ≼ uu = product-monotone (x .lower) (x .upper) (y .upper) (y .upper) (hx .rising) (at-most-refl (y .upper)) in
-    let ul-uu : ul ≼ uu = product-monotone (x .upper) (x .upper) (y .lower) (y .upper) (at-most-refl (x .upper)) (hy .rising) in
-    let ll-uu : ll ≼ uu = product-monotone (x .lower) (x .upper) (y .lower) (y .upper) (hx .rising) (hy .rising) in
+    let a = x .lower in
+    let b = x .upper in
+    let c = y .lower in
+    let d = y .upper in
+    let ac-ad : a ⊗ c ≼ a ⊗ d = product-monotone a a c d (at-most-refl a) (hy .rising) in
+    let ac-bc : a ⊗ c ≼ b ⊗ c = product-monotone a b c c (hx .rising) (at-most-refl c) in
+    let ad-bd : a ⊗ d ≼ b ⊗ d = product-monotone a b d d (hx .rising) (at-most-refl d) in
+    let bc-bd : b ⊗ c ≼ b ⊗ d = product-monotone b b c d (at-most-refl b) (hy .rising) in
+    let ac-bd : a ⊗ c ≼ b ⊗ d = product-monotone a b c d (hx .rising) (hy .rising) in
     ap₂ between
-    (lesser-first ll (lesser lu (lesser ul uu)) (below-lesser ll lu (lesser ul uu) ll-lu (below-lesser ll ul uu ll-ul ll-uu)))
-    (ap (λ (f : Fraction). greater ll (greater lu f)) (greater-second ul uu ul-uu)
-    ∙ ap (greater ll) (greater-second lu uu lu-uu) ∙ greater-second ll uu ll-uu)
+    (lesser-first (a ⊗ c) _ (below-lesser (a ⊗ c) (a ⊗ d) _ ac-ad (below-lesser (a ⊗ c) (b ⊗ c) (b ⊗ d) ac-bc ac-bd)))
+    (ap (λ (f : Fraction). greater (a ⊗ c) (greater (a ⊗ d) f)) (greater-second (b ⊗ c) (b ⊗ d) bc-bd)
+    ∙ ap (greater (a ⊗ c)) (greater-second (a ⊗ d) (b ⊗ d) ad-bd)
+    ∙ greater-second (a ⊗ c) (b ⊗ d) ac-bd)
 
-product-ordered : (x y : Interval) → Ordered x → Ordered y → Ordered (between (x .lower ⊗ y .lower) (x .upper ⊗ y .upper))
+-- those ends are in order
+product-ordered : (x y : Interval) → Ordered x → Ordered y
+    → Ordered (between (x .lower ⊗ y .lower) (x .upper ⊗ y .upper))
 product-ordered x y hx hy = record {
   lower-probability = product-probability (x .lower) (y .lower) (hx .lower-probability) (hy .lower-probability);
   upper-probability = product-probability (x .upper) (y .upper) (hx .upper-probability) (hy .upper-probability);
   rising = product-monotone (x .lower) (x .upper) (y .lower) (y .upper) (hx .rising) (hy .rising);
 }
 
+-- the interval from 1 to 1 is one of probabilities
 unit-ordered : Ordered unit-interval
-unit-ordered = record { lower-probability = one-probability; upper-probability = one-probability; rising = at-most-refl one }
+unit-ordered = record {
+  lower-probability = one-probability;
+  upper-probability = one-probability;
+  rising = at-most-refl one;
+}
 
 -- 1 minus an interval exchanges its ends
 minus-ends : (x : Interval) → minus unit-interval x ≡ between (complement (x .upper)) (complement (x .lower))
 minus-ends x = ap₂ between (one-minus (x .upper)) (one-minus (x .lower))
 
+-- the exchanged ends are in order
 complement-ordered : (x : Interval) → Ordered x → Ordered (between (complement (x .upper)) (complement (x .lower)))
 complement-ordered x h = record {
   lower-probability = complement-probability (x .upper) (h .upper-probability);
@@ -71,19 +83,18 @@ complement-ordered x h = record {
   rising = complement-antitone (x .lower) (x .upper) (h .lower-probability) (h .upper-probability) (h .rising);
 }
 
--- ---- the inputs of a gate: a list of intervals, by their lower ends and their upper ends
-
+-- every interval of a list is one of probabilities
 abbrev All-ordered : List Interval → Type 0
 All-ordered [] = Unit {0}
 All-ordered (x ∷ xs) = Ordered x × All-ordered xs
 
+-- the lower ends of a list of intervals
 abbrev lowers : List Interval → List Fraction
-lowers [] = []
-lowers (x ∷ xs) = x .lower ∷ lowers xs
+lowers xs = map (λ x. x .lower) xs
 
+-- the upper ends of a list of intervals
 abbrev uppers : List Interval → List Fraction
-uppers [] = []
-uppers (x ∷ xs) = x .upper ∷ uppers xs
+uppers xs = map (λ x. x .upper) xs
 
 -- the product of a list of intervals: its ends are the products of the ends, and it is ordered
 product-ends : (xs : List Interval) → All-ordered xs
@@ -96,32 +107,34 @@ product-ends (x ∷ xs) h =
       rw whole (product-ordered x (interval-product xs) (h .0) (rest .1)),
     )
 
--- the complements of a list of intervals
+-- 1 minus each of a list of intervals: they are ordered, and their ends are the complements of the ends
 complements-ends : (xs : List Interval) → All-ordered xs
-    → All-ordered (map (minus unit-interval) xs) × (lowers (map (minus unit-interval) xs) ≡ map complement (uppers xs))
-    × (uppers (map (minus unit-interval) xs) ≡ map complement (lowers xs))
+    → let others : List Interval = map (minus unit-interval) xs in
+    All-ordered others × (lowers others ≡ map complement (uppers xs)) × (uppers others ≡ map complement (lowers xs))
 complements-ends [] h = (tt, refl, refl)
 complements-ends (x ∷ xs) h =
     let rest = complements-ends xs (h .1) in (
       (rw (minus-ends x) (complement-ordered x (h .0)), rest .0),
-      ap₂ (λ (f : Fraction) (fs : List Fraction). f ∷ fs) (one-minus (x .upper)) (rest .1),
-      ap₂ (λ (f : Fraction) (fs : List Fraction). f ∷ fs) (one-minus (x .lower)) (rest .2),
+      ap₂ _∷_ (one-minus (x .upper)) (rest .1),
+      ap₂ _∷_ (one-minus (x .lower)) (rest .2),
     )
 
+-- what a gate makes of a list of intervals: its ends are what it makes of the ends, and it is ordered
 joined-ends : (k : GateKind) (xs : List Interval) → All-ordered xs
     → (interval-joined k xs ≡ between (joined k (lowers xs)) (joined k (uppers xs))) × Ordered (interval-joined k xs)
 joined-ends all xs h = product-ends xs h
 joined-ends any xs h =
-    let others = complements-ends xs h in
-    let inner = product-ends (map (minus unit-interval) xs) (others .0) in
-    let whole = minus-ends (interval-product (map (minus unit-interval) xs)) in (
+    let others = map (minus unit-interval) xs in
+    let (ordered, lows, ups) = complements-ends xs h in
+    let inner = product-ends others ordered in
+    let whole = minus-ends (interval-product others) in (
       whole ∙ ap (λ (y : Interval). between (complement (y .upper)) (complement (y .lower))) (inner .0)
-          ∙ ap₂ (λ (us ls : List Fraction). between (complement (product us)) (complement (product ls))) (others .2) (others .1),
-      rw whole (complement-ordered (interval-product (map (minus unit-interval) xs)) (inner .1)),
+          ∙ ap₂ (λ (us ls : List Fraction). between (complement (product us)) (complement (product ls))) ups lows,
+      rw whole (complement-ordered (interval-product others) (inner .1)),
     )
 
--- demand 2: the alpha-cut of every node is the bottom-up reckoning at all lower and at all upper ends
 mutual
+  -- a node's alpha-cut: its ends are the bottom-up reckoning at the events' ends, and it is ordered
   cut-ends : (t : Tree) (cuts : ℕ → Interval) → Each (λ e. Ordered (cuts e)) (events t)
       → (interval-bottom-up cuts t ≡ between (bottom-up (λ e. cuts e .lower) t) (bottom-up (λ e. cuts e .upper) t))
       × Ordered (interval-bottom-up cuts t)
@@ -131,6 +144,7 @@ mutual
       let outer = joined-ends k (all-intervals cuts ts) (inner .2) in
       (outer .0 ∙ ap₂ (λ (ls us : List Fraction). between (joined k ls) (joined k us)) (inner .0) (inner .1), outer .1)
 
+  -- the same of the inputs of a gate
   all-cut-ends : (ts : Inputs) (cuts : ℕ → Interval) → Each (λ e. Ordered (cuts e)) (all-events ts)
       → (lowers (all-intervals cuts ts) ≡ all-bottom-up (λ e. cuts e .lower) ts)
       × (uppers (all-intervals cuts ts) ≡ all-bottom-up (λ e. cuts e .upper) ts) × All-ordered (all-intervals cuts ts)
@@ -148,6 +162,7 @@ mutual
         (first .1, rest .2),
       )
 
+-- demand 2: the alpha-cut of every node is the bottom-up reckoning at all lower and at all upper ends
 pub cut-is-bottom-up : (cuts : ℕ → Interval) (t : Tree) → Each (λ e. Ordered (cuts e)) (events t)
     → interval-bottom-up cuts t ≡ between (bottom-up (λ e. cuts e .lower) t) (bottom-up (λ e. cuts e .upper) t)
 cut-is-bottom-up cuts t h = cut-ends t cuts h .0

@@ -1,6 +1,5 @@
--- The cut of a trapezoidal number is an interval of probabilities, and its ends are the mixtures of the numbers that the code
--- divides once.
--- Assumes nothing.
+-- The cut of a trapezoidal number is an interval of probabilities, and its ends are the mixtures of the numbers that
+-- the code divides once. Assumes nothing.
 use Prim.Native.Nat.{ℕ, _+_, _-_, _*_, _≤_, _<_}
 use mathlib.Core.Path.{_≡_}
 use native.Mathlib.Nat.{le-trans, mul-pos, mul-le-mul-right, mul-le-mul-left, sub-add-cancel, sub-le}
@@ -10,31 +9,33 @@ use Rattle.theory.specs.Trapezoid.{Trapezoid, Rising, cut}
 
 -- a + (b − a) × k / n is the mixture of a and b
 pub lower-mixture : (a b k n : ℕ) → a ≤ b → k ≤ n → a * n + (b - a) * k ≡ a * (n - k) + b * k
-lower-mixture a b k n h l = parts (b - a) (n - k) (sub-add-cancel h) (sub-add-cancel l)
+lower-mixture a b k n h l = from-sums (b - a) (n - k) (sub-add-cancel h) (sub-add-cancel l)
   where
-    parts : (m j : ℕ) → m + a ≡ b → j + k ≡ n → a * n + m * k ≡ a * j + b * k
-    parts m j hm hj = rw (← hm, ← hj) (omega arith)
+    from-sums : (m j : ℕ) → m + a ≡ b → j + k ≡ n → a * n + m * k ≡ a * j + b * k
+    from-sums m j hm hj = rw (← hm, ← hj) (omega arith)
 
 -- d − (d − c) × k / n is the mixture of d and c
 pub upper-mixture : (c d k n : ℕ) → c ≤ d → k ≤ n → d * n - (d - c) * k ≡ d * (n - k) + c * k
-upper-mixture c d k n h l = parts (d - c) (n - k) (sub-add-cancel h) (sub-add-cancel l)
+upper-mixture c d k n h l = from-sums (d - c) (n - k) (sub-add-cancel h) (sub-add-cancel l)
   where
-    parts : (m j : ℕ) → m + c ≡ d → j + k ≡ n → d * n - m * k ≡ d * j + c * k
-    parts m j hm hj = rw (← hm, ← hj) (omega arith)
+    from-sums : (m j : ℕ) → m + c ≡ d → j + k ≡ n → d * n - m * k ≡ d * j + c * k
+    from-sums m j hm hj = rw (← hm, ← hj) (omega arith)
 
--- the lower end reaches at most b, and the upper end at least c
+-- the lower end reaches at most b
 lower-reach : (a b k n : ℕ) → a ≤ b → k ≤ n → a * n + (b - a) * k ≤ b * n
-lower-reach a b k n h l = parts (b - a) (sub-add-cancel h)
+lower-reach a b k n h l = from-sum (b - a) (sub-add-cancel h)
   where
-    parts : (m : ℕ) → m + a ≡ b → a * n + m * k ≤ b * n
-    parts m hm = let far : m * k ≤ m * n = mul-le-mul-left m l in rw (← hm) (omega arith)
+    from-sum : (m : ℕ) → m + a ≡ b → a * n + m * k ≤ b * n
+    from-sum m hm = rw (← hm) (omega (arith, mul-le-mul-left m l))
 
+-- the upper end reaches at least c
 upper-reach : (c d k n : ℕ) → c ≤ d → k ≤ n → c * n ≤ d * n - (d - c) * k
-upper-reach c d k n h l = parts (d - c) (sub-add-cancel h)
+upper-reach c d k n h l = from-sum (d - c) (sub-add-cancel h)
   where
-    parts : (m : ℕ) → m + c ≡ d → c * n ≤ d * n - m * k
-    parts m hm = let far : m * k ≤ m * n = mul-le-mul-left m l in rw (← hm) (omega arith)
+    from-sum : (m : ℕ) → m + c ≡ d → c * n ≤ d * n - m * k
+    from-sum m hm = rw (← hm) (omega (arith, mul-le-mul-left m l))
 
+-- a level's cut of a trapezoidal number in order is an interval of probabilities
 pub cut-ordered : (z : Trapezoid) (k n : ℕ) → Rising z → 0 < n → k ≤ n → Ordered (cut z k n)
 unfolding cut
 cut-ordered z k n h pos l =

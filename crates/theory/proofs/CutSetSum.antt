@@ -1,5 +1,4 @@
--- The literal sum over cut sets (specs/Unreliability) is an expectation.
--- Assumes nothing.
+-- The literal sum over cut sets (specs/Unreliability) is an expectation. Assumes nothing.
 use Prim.Native.Nat.{ℕ, _+_, _-_, _*_}
 use mathlib.Core.Path.{_≡_, refl, sym, ap, ap₂, _∙_}
 use mathlib.Core.Bool.{Bool, true, false, not, cond, _||_}
@@ -7,27 +6,18 @@ use mathlib.Core.List.{List, [], _∷_, _++_, map}
 use native.Mathlib.Nat.{add-zero, zero-add, mul-one, one-mul, mul-zero, zero-mul}
 use native.Mathlib.Omega.{arith}
 use lib.Dec.{T, eqb}
-use borrow.Author.Tests.{eq-eqb, ne-eqb, eqb-true, eqb-false}
 use Rattle.theory.specs.Fraction.{Fraction}
 use Rattle.theory.specs.FaultTree.{contains}
 use Rattle.theory.specs.Unreliability.{EventSet, empty-set, with-event, subsets, those, weight, total}
+use Rattle.theory.proofs.Missing.{false-of-not, both-of-not-or, eqb-same, eqb-comm}
 use Rattle.theory.proofs.Distinct.{Distinct}
 use Rattle.theory.proofs.Expectation.{bit, expect}
-
-eqb-same : (e : ℕ) → eqb e e ≡ true
-eqb-same e = eq-eqb e e refl
-
-eqb-comm : (a b : ℕ) → eqb a b ≡ eqb b a
-eqb-comm a b = go (eqb a b) refl
-  where
-    go : (t : Bool) → eqb a b ≡ t → eqb a b ≡ eqb b a
-    go true h = h ∙ sym (eq-eqb b a (sym (eqb-true a b h)))
-    go false h = h ∙ sym (ne-eqb b a (λ k. eqb-false a b h (sym k)))
 
 -- the sum of a weight over the sets that pass a test
 abbrev sum-over : (EventSet → ℕ) → (EventSet → Bool) → List EventSet → ℕ
 sum-over w f ss = total (map w (those f ss))
 
+-- the first set adds its weight where it passes
 sum-over-cons : (w : EventSet → ℕ) (f : EventSet → Bool) (s : EventSet) (ss : List EventSet)
     → sum-over w f (s ∷ ss) ≡ bit (f s) * w s + sum-over w f ss
 sum-over-cons w f s ss = go (f s)
@@ -36,15 +26,14 @@ sum-over-cons w f s ss = go (f s)
     go true = ap (λ (x : ℕ). x + sum-over w f ss) (sym (one-mul (w s)))
     go false = sym (ap (λ (x : ℕ). x + sum-over w f ss) (zero-mul (w s)) ∙ zero-add (sum-over w f ss))
 
+-- the sum over a joined list is the sum of the sums
 sum-over-append : (w : EventSet → ℕ) (f : EventSet → Bool) (ss ts : List EventSet)
     → sum-over w f (ss ++ ts) ≡ sum-over w f ss + sum-over w f ts
 sum-over-append w f [] ts = sym (zero-add _)
 sum-over-append w f (s ∷ ss) ts =
-    let h = sum-over-cons w f s (ss ++ ts) in
-    let g = sum-over-cons w f s ss in
-    let ih = sum-over-append w f ss ts in
-    omega arith
+    omega (arith, sum-over-cons w f s (ss ++ ts), sum-over-cons w f s ss, sum-over-append w f ss ts)
 
+-- the sum over changed sets is that of the weight and the test after the change
 sum-over-map : (w : EventSet → ℕ) (f : EventSet → Bool) (g : EventSet → EventSet) (ss : List EventSet)
     → sum-over w f (map g ss) ≡ sum-over (λ s. w (g s)) (λ s. f (g s)) ss
 sum-over-map w f g [] = refl
@@ -57,12 +46,15 @@ abbrev Each-set : (EventSet → Type 0) → List EventSet → Type 0
 Each-set P [] = Unit {0}
 Each-set P (s ∷ ss) = P s × Each-set P ss
 
-each-set-append : (P : EventSet → Type 0) (ss ts : List EventSet) → Each-set P ss → Each-set P ts → Each-set P (ss ++ ts)
+-- a property of each set of two lists is one of each set of the joined list
+each-set-append : (P : EventSet → Type 0) (ss ts : List EventSet)
+    → Each-set P ss → Each-set P ts → Each-set P (ss ++ ts)
 each-set-append P [] ts h g = g
 each-set-append P (s ∷ ss) ts h g = (h .0, each-set-append P ss ts (h .1) g)
 
-each-set-map : (P Q : EventSet → Type 0) (g : EventSet → EventSet) → ((s : EventSet) → P s → Q (g s)) → (ss : List EventSet)
-    → Each-set P ss → Each-set Q (map g ss)
+-- a property of each set is one of each changed set
+each-set-map : (P Q : EventSet → Type 0) (g : EventSet → EventSet) → ((s : EventSet) → P s → Q (g s))
+    → (ss : List EventSet) → Each-set P ss → Each-set Q (map g ss)
 each-set-map P Q g k [] h = tt
 each-set-map P Q g k (s ∷ ss) h = (k s (h .0), each-set-map P Q g k ss (h .1))
 
@@ -76,42 +68,56 @@ sum-over-scale c w v f (s ∷ ss) h =
     ∙ (omega arith)
     ∙ ap (λ (x : ℕ). c * x) (sym (sum-over-cons v f s ss))
 
-or-false : (a b : Bool) → T (not (a || b)) → (a ≡ false) × T (not b)
-or-false true b h = absurd h
-or-false false b h = (refl, h)
-
 -- a set of listed events lacks each event that is not listed
 subsets-lack : (e : ℕ) (es : List ℕ) → T (not (contains e es)) → Each-set (λ s. s e ≡ false) (subsets es)
 subsets-lack e [] h = (refl, tt)
 subsets-lack e (x ∷ xs) h =
-    let apart = or-false (eqb e x) (contains e xs) h in
-    let rest = subsets-lack e xs (apart .1) in
-    each-set-append (λ s. s e ≡ false) (subsets xs) (map (with-event x) (subsets xs)) rest
-    (each-set-map (λ s. s e ≡ false) (λ s. s e ≡ false) (with-event x)
-    (λ s k. ap₂ _||_ (eqb-comm x e ∙ apart .0) k) (subsets xs) rest)
+    let (apart, absent) = both-of-not-or (eqb e x) (contains e xs) h in
+    let other : eqb x e ≡ false = eqb-comm x e ∙ false-of-not (eqb e x) apart in
+    let rest = subsets-lack e xs absent in
+    each-set-append _ (subsets xs) (map (with-event x) (subsets xs)) rest
+    (each-set-map _ _ (with-event x) (λ s k. ap₂ _||_ other k) (subsets xs) rest)
 
 -- an event that is not listed changes no weight
 weight-with : (p : ℕ → Fraction) (e : ℕ) (es : List ℕ) (s : EventSet) → T (not (contains e es))
     → weight p es (with-event e s) ≡ weight p es s
 weight-with p e [] s h = refl
 weight-with p e (x ∷ xs) s h =
-    let apart = or-false (eqb e x) (contains e xs) h in
-    ap₂ (λ (b : Bool) (y : ℕ). cond (b || s x) (p x .num) (p x .den - p x .num) * y) (apart .0)
-    (weight-with p e xs s (apart .1))
+    let (apart, absent) = both-of-not-or (eqb e x) (contains e xs) h in
+    ap₂ (λ (b : Bool) (y : ℕ). cond (b || s x) (p x .num) (p x .den - p x .num) * y)
+    (false-of-not (eqb e x) apart) (weight-with p e xs s absent)
 
+-- an event outside a set multiplies its weight by 1 minus the event's probability
 weight-scaled : (p : ℕ → Fraction) (e : ℕ) (es : List ℕ) (ss : List EventSet) → Each-set (λ s. s e ≡ false) ss
     → Each-set (λ s. weight p (e ∷ es) s ≡ (p e .den - p e .num) * weight p es s) ss
 weight-scaled p e es [] h = tt
 weight-scaled p e es (s ∷ ss) h =
     (ap (λ (b : Bool). cond b (p e .num) (p e .den - p e .num) * weight p es s) (h .0), weight-scaled p e es ss (h .1))
 
+-- an event added to a set multiplies its weight by the event's probability
 weight-scaled-with : (p : ℕ → Fraction) (e : ℕ) (es : List ℕ) → T (not (contains e es)) → (ss : List EventSet)
     → Each-set (λ s. weight p (e ∷ es) (with-event e s) ≡ p e .num * weight p es s) ss
 weight-scaled-with p e es h [] = tt
 weight-scaled-with p e es h (s ∷ ss) = (
-  ap₂ (λ (b : Bool) (y : ℕ). cond (b || s e) (p e .num) (p e .den - p e .num) * y) (eqb-same e) (weight-with p e es s h),
+  ap₂ (λ (b : Bool) (y : ℕ). cond (b || s e) (p e .num) (p e .den - p e .num) * y)
+      (eqb-same e) (weight-with p e es s h),
   weight-scaled-with p e es h ss,
 )
+
+-- the sum over the sets without a further event
+sum-without-event : (p : ℕ → Fraction) (e : ℕ) (es : List ℕ) (f : EventSet → Bool) → T (not (contains e es))
+    → sum-over (weight p (e ∷ es)) f (subsets es) ≡ (p e .den - p e .num) * sum-over (weight p es) f (subsets es)
+sum-without-event p e es f h =
+    sum-over-scale (p e .den - p e .num) (weight p (e ∷ es)) (weight p es) f (subsets es)
+    (weight-scaled p e es (subsets es) (subsets-lack e es h))
+
+-- the sum over the sets with it
+sum-with-event : (p : ℕ → Fraction) (e : ℕ) (es : List ℕ) (f : EventSet → Bool) → T (not (contains e es))
+    → sum-over (weight p (e ∷ es)) f (map (with-event e) (subsets es))
+    ≡ p e .num * sum-over (weight p es) (λ s. f (with-event e s)) (subsets es)
+sum-with-event p e es f h =
+    sum-over-map (weight p (e ∷ es)) f (with-event e) (subsets es)
+    ∙ sum-over-scale (p e .num) _ (weight p es) _ (subsets es) (weight-scaled-with p e es h (subsets es))
 
 -- the literal sum of the weights of the sets that pass a test is the test's expectation
 pub sum-is-expectation : (p : ℕ → Fraction) (es : List ℕ) (f : EventSet → Bool) → Distinct es
@@ -121,10 +127,6 @@ sum-is-expectation p [] f h =
 sum-is-expectation p (e ∷ es) f h =
     sum-over-append (weight p (e ∷ es)) f (subsets es) (map (with-event e) (subsets es))
     ∙ ap₂ _+_
-    (sum-over-scale (p e .den - p e .num) (weight p (e ∷ es)) (weight p es) f (subsets es)
-    (weight-scaled p e es (subsets es) (subsets-lack e es (h .0)))
-    ∙ ap (λ (x : ℕ). (p e .den - p e .num) * x) (sum-is-expectation p es f (h .1)))
-    (sum-over-map (weight p (e ∷ es)) f (with-event e) (subsets es)
-    ∙ sum-over-scale (p e .num) (λ s. weight p (e ∷ es) (with-event e s)) (weight p es) (λ s. f (with-event e s)) (subsets es)
-    (weight-scaled-with p e es (h .0) (subsets es))
-    ∙ ap (λ (x : ℕ). p e .num * x) (sum-is-expectation p es (λ s. f (with-event e s)) (h .1)))
+    (sum-without-event p e es f (h .0) ∙ ap (_*_ (p e .den - p e .num)) (sum-is-expectation p es f (h .1)))
+    (sum-with-event p e es f (h .0)
+    ∙ ap (_*_ (p e .num)) (sum-is-expectation p es (λ s. f (with-event e s)) (h .1)))

@@ -1,13 +1,14 @@
 -- Lists without repeats, by membership and by how often a number stands in a list. Assumes nothing.
 use Prim.Native.Nat.{ℕ, _+_, _≤_, _<_}
 use mathlib.Core.Path.{_≡_, refl, sym, ap, _∙_}
-use mathlib.Core.Bool.{Bool, true, false, cond, not, _||_}
+use mathlib.Core.Bool.{Bool, true, false, cond, not, _||_, or-assoc}
 use mathlib.Core.List.{List, [], _∷_, _++_}
 use native.Mathlib.Nat.{zero-add}
 use native.Mathlib.Omega.{arith}
 use lib.Dec.{T, eqb, ltb, lt→ltb, ltb→lt, nltb→le, not-T}
-use borrow.Author.Tests.{eqb-true, eq-eqb, lt-ltb}
-use Rattle.theory.specs.FaultTree.{contains, each-once, Each}
+use borrow.Author.Tests.{eqb-true, lt-ltb}
+use Rattle.theory.specs.FaultTree.{contains, each-once}
+use Rattle.theory.proofs.Missing.{eqb-same, or-lacks}
 use Rattle.theory.proofs.Sums.{summed, summed-append}
 
 -- no number of the list stands again later in it
@@ -56,12 +57,13 @@ module _ (e : ℕ) (es : List ℕ) where
 -- what stands in a joined list stands in one of its parts
 pub contains-append : (e : ℕ) (xs ys : List ℕ) → contains e (xs ++ ys) ≡ (contains e xs || contains e ys)
 contains-append e [] ys = refl
-contains-append e (x ∷ xs) ys = go (eqb e x) (contains-append e xs ys)
-  where
-    go : (b : Bool) → contains e (xs ++ ys) ≡ (contains e xs || contains e ys) →
-        (b || contains e (xs ++ ys)) ≡ ((b || contains e xs) || contains e ys)
-    go true h = refl
-    go false h = h
+contains-append e (x ∷ xs) ys =
+    ap (_||_ (eqb e x)) (contains-append e xs ys) ∙ sym (or-assoc (eqb e x) (contains e xs) (contains e ys))
+
+-- what does not stand in a joined list stands in neither of its parts
+pub lacks-append : (e : ℕ) (xs ys : List ℕ) → contains e (xs ++ ys) ≡ false →
+    (contains e xs ≡ false) × (contains e ys ≡ false)
+lacks-append e xs ys h = or-lacks (contains e xs) (contains e ys) (sym (contains-append e xs ys) ∙ h)
 
 -- in a list without repeats nothing stands twice
 pub distinct-at-most-once : (es : List ℕ) → Distinct es → (e : ℕ) → multiplicity e es ≤ 1
@@ -80,7 +82,7 @@ at-most-once-distinct [] h = tt
 at-most-once-distinct (x ∷ xs) h = (not-counted-absent x xs first, at-most-once-distinct xs rest)
   where
     first : multiplicity x xs ≡ 0
-    first = let t : 1 + multiplicity x xs ≤ 1 = rw (eq-eqb x x refl) at (h x) in omega arith
+    first = let t : 1 + multiplicity x xs ≤ 1 = rw (eqb-same x) at (h x) in omega arith
 
     rest : (e : ℕ) → multiplicity e xs ≤ 1
     rest e = omega (arith, h e)
@@ -132,24 +134,3 @@ each-once-distinct (x ∷ xs) = go (contains x xs) refl (each-once-distinct xs)
         Distinct (cond b (each-once xs) (x ∷ each-once xs))
     go true p d = d
     go false p d = (rw (contains-each-once x xs, p) tt, d)
-
--- a property of whatever a list contains is one of each number of it
-pub each-of-contained : (P : ℕ → Type 0) (es : List ℕ) → ((e : ℕ) → T (contains e es) → P e) → Each P es
-each-of-contained P [] h = tt
-each-of-contained P (x ∷ xs) h = (h x first, each-of-contained P xs (λ e t. h e (later e (eqb e x) t)))
-  where
-    first : T (eqb x x || contains x xs)
-    first = rw (eq-eqb x x refl) tt
-
-    later : (e : ℕ) (b : Bool) → T (contains e xs) → T (b || contains e xs)
-    later e true t = tt
-    later e false t = t
-
--- a property of each number of a list is one of whatever the list contains
-pub contained-of-each : (P : ℕ → Type 0) (es : List ℕ) → Each P es → (e : ℕ) → T (contains e es) → P e
-contained-of-each P [] h e t = absurd t
-contained-of-each P (x ∷ xs) h e t = go (eqb e x) refl t (contained-of-each P xs (h .1) e)
-  where
-    go : (b : Bool) → eqb e x ≡ b → T (b || contains e xs) → (T (contains e xs) → P e) → P e
-    go true q s later = rw (eqb-true e x q) (h .0)
-    go false q s later = later s

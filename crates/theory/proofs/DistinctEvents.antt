@@ -1,29 +1,31 @@
 -- The tree of a node holds no event twice, and only events of the table; the root's tree holds them all. Each of these
 -- is the law `worth-at-most` or `root-worth` at some v. Assumes nothing.
 use Prim.Native.Nat.{ℕ, zero, suc, _+_, _≤_, _<_}
-use mathlib.Core.Path.{_≡_, refl, sym, _∙_}
+use mathlib.Core.Path.{_≡_, sym, _∙_}
 use mathlib.Core.Logic.{_≢_, _⊎_, inl, inr}
 use native.Mathlib.Nat.{eq-or-lt-of-le, le-trans}
 use native.Mathlib.Omega.{arith}
 use native.Mathlib.Decide.{decLt}
 use lib.Dec.{T}
 use lib.ListN.{length}
-use borrow.Author.Tests.{eq-eqb, ne-eqb}
+use borrow.Author.Tests.{ne-eqb}
 use Rattle.theory.specs.FaultTree.{Tree, events, all-events, contains, beneath, Each}
 use Rattle.theory.specs.NodeTable.{Node, event, joint, Table, inputs, build, tree-of, link-count, event-count}
 use Rattle.theory.specs.NodeTable.{Has-link, Owns, Numbered, Ranked, Linked-once, Others-linked}
+use Rattle.theory.proofs.Missing.{eqb-same}
 use Rattle.theory.proofs.Sums.{summed, summed-append, summed-ones, sum, sum-ones, sum-zeros, sum-one-term}
 use Rattle.theory.proofs.Sums.{term-at-most-sum}
 use Rattle.theory.proofs.LinkedSums.{Linked, Not-linked, linked-or-not, not-linked, not-linked-elsewhere}
 use Rattle.theory.proofs.LinkedSums.{not-linked-at}
 use Rattle.theory.proofs.Distinct.{Distinct, is, multiplicity, at-most-once-distinct, contained-counted}
-use Rattle.theory.proofs.Distinct.{counted-contained, distinct-each-once, each-of-contained}
+use Rattle.theory.proofs.Distinct.{counted-contained, distinct-each-once}
+use Rattle.theory.proofs.Each.{each-of-contained}
 use Rattle.theory.proofs.TreeOf.{tree-unfolds}
 use Rattle.theory.proofs.Counting.{worth, Owner, gate-of, not-linked-worth}
 
 -- a number below n stands once among the numbers below n
 pub below-once : (e n : ℕ) → e < n → sum n (is e) ≡ 1
-below-once e n l = sum-one-term (is e) n e l (λ i m d. rw (ne-eqb e i (λ q. d (sym q)))) ∙ rw (eq-eqb e e refl)
+below-once e n l = sum-one-term (is e) n e l (λ i m d. rw (ne-eqb e i (λ q. d (sym q)))) ∙ rw (eqb-same e)
 
 -- a number not below n stands never among them
 pub above-never : (e n : ℕ) → n ≤ e → sum n (is e) ≡ 0

@@ -7,6 +7,7 @@ use Rattle.theory.specs.Rounding.{cut-end}
 use Rattle.theory.specs.Examples.{outcome, table}
 
 -- every row's ends and marks are those that the rounded evaluation reports
-pub examples-hold : (map (outcome down) table ≡ map (λ x. x .lower) table) × (map (outcome up) table ≡ map (λ x. x .upper) table)
+pub examples-hold : (map (outcome down) table ≡ map (λ x. x .lower) table)
+    × (map (outcome up) table ≡ map (λ x. x .upper) table)
 unfolding cut rounded nothing-dropped start end-complement true-zero step cut-end
 examples-hold = (refl, refl)

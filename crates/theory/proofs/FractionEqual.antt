@@ -14,10 +14,11 @@ fraction-path p q = λ i. record { num = p i; den = q i }
 pub times-assoc : (f g h : Fraction) → f ⊗ g ⊗ h ≡ f ⊗ (g ⊗ h)
 times-assoc f g h = fraction-path (mul-assoc (f .num) (g .num) (h .num)) (mul-assoc (f .den) (g .den) (h .den))
 
--- a product with 1, on either side
+-- a product with 1
 pub times-one : (f : Fraction) → f ⊗ one ≡ f
 times-one f = fraction-path (mul-one (f .num)) (mul-one (f .den))
 
+-- and a product of 1
 pub one-times : (f : Fraction) → one ⊗ f ≡ f
 one-times f = fraction-path (one-mul (f .num)) (one-mul (f .den))
 

@@ -3,13 +3,18 @@
 pub mod Missing
 pub mod Sums
 pub mod Distinct
+pub mod Each
 pub mod FractionOrder
 pub mod FractionEqual
 -- Demand 2: the sum over all cut sets is the bottom-up reckoning, and so are the ends of the alpha-cut.
 pub mod BottomUpProbability
 pub mod Expectation
+pub mod ExpectationProduct
+pub mod ExpectationRises
 pub mod CutSetSum
-pub mod Independence
+pub mod StructureFunction
+pub mod TestHolds
+pub mod EventHolds
 pub mod UnreliabilityIsBottomUp
 pub mod UnreliabilityRises
 pub mod CutIsBottomUp

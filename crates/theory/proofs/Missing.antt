@@ -3,9 +3,14 @@ use Prim.Native.Nat.{ℕ, zero, suc, _+_, _-_, _*_, _<_}
 use native.Mathlib.Nat.{zero-mul, suc-mul, mul-comm, mul-sub}
 use native.Mathlib.Omega.{arith}
 use mathlib.Core.Path.{_≡_, refl, ap₂, sym, _∙_}
-use mathlib.Core.Bool.{Bool, true, false, not, _&&_, _||_}
+use mathlib.Core.Bool.{Bool, true, false, not, _&&_, _||_, false≢true}
 use lib.Dec.{T, eqb, eqb·suc-zero}
-use borrow.Author.Tests.{ne-eqb}
+use borrow.Author.Tests.{eqb-true, eqb-false, eq-eqb, ne-eqb}
+
+-- a test that fails is false
+pub false-of-not : (b : Bool) → T (not b) → b ≡ false
+false-of-not true t = absurd t
+false-of-not false t = refl
 
 -- both tests of a passed conjunction pass
 pub both-of-and : (a b : Bool) → T (a && b) → T a × T b
@@ -26,6 +31,52 @@ either-of-or false b f g t = g t
 pub both-of-not-or : (a b : Bool) → T (not (a || b)) → T (not a) × T (not b)
 both-of-not-or true b t = absurd t
 both-of-not-or false b t = (tt, t)
+
+-- both tests of a false disjunction are false
+pub or-lacks : (a b : Bool) → a || b ≡ false → (a ≡ false) × (b ≡ false)
+or-lacks true b h = absurd (false≢true (sym h))
+or-lacks false b h = (refl, h)
+
+-- a disjunction passes where its second test does
+pub or-right : (a b : Bool) → T b → T (a || b)
+or-right true b t = tt
+or-right false b t = t
+
+-- a conjunction passes where one passes whose tests imply its own
+pub and-implied : (a b c d : Bool) → (T a → T c) → (T b → T d) → T (a && b) → T (c && d)
+and-implied true b true d h k t = k t
+and-implied true b false d h k t = absurd (h tt)
+and-implied false b c d h k t = absurd t
+
+-- so does a disjunction
+pub or-implied : (a b c d : Bool) → (T a → T c) → (T b → T d) → T (a || b) → T (c || d)
+or-implied true b true d h k t = tt
+or-implied true b false d h k t = absurd (h tt)
+or-implied false b true d h k t = tt
+or-implied false b false d h k t = k t
+
+-- the first two tests of a disjunction may change places
+pub or-swap : (a b c : Bool) → a || (b || c) ≡ b || (a || c)
+or-swap true true c = refl
+or-swap true false c = refl
+or-swap false b c = refl
+
+-- the negation of a conjunction whose first test is negated
+pub not-and : (a b : Bool) → not (not a && b) ≡ a || not b
+not-and true b = refl
+not-and false b = refl
+
+-- a number equals itself
+pub eqb-same : (a : ℕ) → eqb a a ≡ true
+eqb-same a = eq-eqb a a refl
+
+-- the test whether two numbers are equal does not turn on their order
+pub eqb-comm : (a b : ℕ) → eqb a b ≡ eqb b a
+eqb-comm a b = go (eqb a b) refl
+  where
+    go : (t : Bool) → eqb a b ≡ t → eqb a b ≡ eqb b a
+    go true h = h ∙ sym (eq-eqb b a (sym (eqb-true a b h)))
+    go false h = h ∙ sym (ne-eqb b a (λ q. eqb-false a b h (sym q)))
 
 -- one of two numbers with a sum above 0 is above 0
 pub either-positive : {X : Type 0} (a b : ℕ) → (0 < a → X) → (0 < b → X) → 0 < a + b → X

@@ -1,6 +1,5 @@
--- The main theorems on a table: every node's reported ends keep their promises for the table's E events, and the root's
--- unreliability lies in the reported interval.
--- Assumes nothing.
+-- The main theorems on a table: every node's reported ends keep their promises for the table's E events, and every
+-- node's unreliability lies in the reported interval. Assumes nothing.
 use Prim.Native.Nat.{ℕ, _<_}
 use Rattle.theory.specs.Fraction.{Fraction, _≼_, in-units}
 use Rattle.theory.specs.FaultTree.{events, Each}
@@ -9,8 +8,7 @@ use Rattle.theory.specs.Interval.{Interval, Inside, Ordered}
 use Rattle.theory.specs.Rounding.{Direction, down, up, reported}
 use Rattle.theory.specs.Promise.{Promised, exact-end}
 use Rattle.theory.specs.NodeTable.{Table, tree-of, event-count, Numbered, Ranked, Linked-once}
-use Rattle.theory.proofs.Expectation.{each-map}
-use Rattle.theory.proofs.UnreliabilityIsBottomUp.{each-beneath}
+use Rattle.theory.proofs.Each.{each-map, each-beneath}
 use Rattle.theory.proofs.DistinctEvents.{each-event-below, events-distinct, events-few}
 use Rattle.theory.proofs.ReportedEnds.{reported-promised, top-contained}
 

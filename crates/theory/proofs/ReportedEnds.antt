@@ -1,6 +1,5 @@
--- The main theorems on a tree: what is promised of each reported end (demand 3), that the exact ends are the ends of the
--- alpha-cut of 004 (demand 2), and that the top probability lies in the reported interval.
--- Assumes nothing.
+-- The main theorems on a tree: what is promised of each reported end (demand 3), that the exact ends are the ends of
+-- the alpha-cut of 004 (demand 2), and that the top probability lies in the reported interval. Assumes nothing.
 use Prim.Native.Nat.{ℕ, _≤_, _<_}
 use mathlib.Core.Path.{sym}
 use mathlib.Core.Bool.{Bool, true, false, not}
@@ -17,8 +16,9 @@ use Rattle.theory.specs.Promise.{under, over, Promised, exact-end, Choic
 use Rattle.theory.proofs.Distinct.{Distinct}
 use Rattle.theory.proofs.FractionOrder.{at-most-trans}
 use Rattle.theory.proofs.BottomUpProbability.{bottom-up-probability}
-use Rattle.theory.proofs.Expectation.{Probable, each-map}
-use Rattle.theory.proofs.UnreliabilityIsBottomUp.{each-beneath, unreliability-is-bottom-up, distinct-independent}
+use Rattle.theory.proofs.Each.{each-map, each-beneath}
+use Rattle.theory.proofs.Expectation.{Probable}
+use Rattle.theory.proofs.UnreliabilityIsBottomUp.{unreliability-is-bottom-up, distinct-independent}
 use Rattle.theory.proofs.UnreliabilityRises.{unreliability-probability, between-exact-ends}
 use Rattle.theory.proofs.CutIsBottomUp.{cut-is-bottom-up}
 use Rattle.theory.proofs.Promised.{end-promised, promised-respects}
@@ -42,6 +42,7 @@ promised-safe U w E r x h = go w (r .exact) (h .marked) (h .unmarked)
     go w false e s = le-of-lt (s tt)
 
 module _ (cuts : ℕ → Interval) (t : Tree) (ordered : Each (λ e. Ordered (cuts e)) (events t)) where
+  -- the ends of the events' cuts are probabilities
   ends-probable : (w : Direction) → Each (Probable (λ e. end-of w (cuts e))) (events t)
   ends-probable w = each-map _ _ (λ e. end-probability w (cuts e)) (events t) ordered
 
@@ -64,10 +65,10 @@ module _ (cuts : ℕ → Interval) (t : Tree) (ordered : Each (λ e. Ordered (cu
     pub reported-promised : (U : ℕ) → 0 < U → (w : Direction) (E : ℕ) → length (events t) ≤ E
         → Promised U w E (reported U w cuts t) (exact-end w cuts t)
     reported-promised U pos w E few =
-        promised-respects U w E (reported U w cuts t) (bottom-up (λ e. end-of w (cuts e)) t) (exact-end w cuts t) pos
-        (bottom-up-probability t (λ e. end-of w (cuts e)) (ends-probable w) .positive) (exact-end-probability w .positive)
-        (sym (exact-end-is-bottom-up w))
-        (end-promised U pos w (λ e. end-of w (cuts e)) t (ends-probable w) E few)
+        let p : ℕ → Fraction = λ e. end-of w (cuts e) in
+        promised-respects U w E (reported U w cuts t) (bottom-up p t) (exact-end w cuts t) pos
+        (bottom-up-probability t p (ends-probable w) .positive) (exact-end-probability w .positive)
+        (sym (exact-end-is-bottom-up w)) (end-promised U pos w p t (ends-probable w) E few)
 
     -- demand 3: whatever fractions the events have inside their cuts, the top probability lies in the reported interval
     pub top-contained : (U : ℕ) → 0 < U → (p : ℕ → Fraction) → Choice cuts t p

@@ -6,16 +6,18 @@ use Rattle.theory.specs.Fraction.{Fraction, Probability}
 use Rattle.theory.specs.FaultTree.{Tree, Inputs, basic, gate, only, more, events, all-events, Each}
 use Rattle.theory.specs.BottomUp.{bottom-up, all-bottom-up}
 use Rattle.theory.specs.Rounding.{Direction, rounded-end, all-ends}
-use Rattle.theory.proofs.BottomUpProbability.{each-left, each-right, all-bottom-up-probable}
+use Rattle.theory.proofs.Each.{each-left, each-right}
+use Rattle.theory.proofs.BottomUpProbability.{all-bottom-up-probable}
 use Rattle.theory.proofs.Rounded.{EndGap, cut-end-gap}
 use Rattle.theory.proofs.RoundedGate.{EndGaps, no-gaps, add-gap, end-gaps-respects, gate-gap}
 
--- a tree has an event
 mutual
+  -- a tree has an event
   pub events-positive : (t : Tree) → 0 < length (events t)
   events-positive (basic e) = omega arith
   events-positive (gate k ts) = all-events-positive ts
 
+  -- so have the inputs of a gate
   pub all-events-positive : (ts : Inputs) → 0 < length (all-events ts)
   all-events-positive (only t) = events-positive t
   all-events-positive (more t ts) =

@@ -1,8 +1,6 @@
--- The unreliability is a probability and rises with every event's probability; so whatever fractions the events have inside
--- their cuts, it lies between the exact ends.
--- Assumes nothing.
+-- The unreliability is a probability and rises with every event's probability; so whatever fractions the events have
+-- inside their cuts, it lies between the exact ends. Assumes nothing.
 use Prim.Native.Nat.{ℕ, _*_, _≤_}
-use mathlib.Core.List.{List, [], _∷_}
 use native.Mathlib.Nat.{le-trans, le-of-eq, le-add-right, mul-le-mul-right, le-of-mul-le-mul-right}
 use native.Mathlib.Omega.{arith}
 use Rattle.theory.specs.Fraction.{Fraction, Probability, _≼_}
@@ -11,20 +9,25 @@ use Rattle.theory.specs.Unreliability.{fails, unreliability}
 use Rattle.theory.specs.Interval.{Interval, Inside, Ordered}
 use Rattle.theory.specs.Rounding.{down, up}
 use Rattle.theory.specs.Promise.{exact-end, Choice}
-use Rattle.theory.proofs.Expectation.{bit, Probable, Raised, each-map, denominator-positive, expect-not}
-use Rattle.theory.proofs.Expectation.{expect-rises}
-use Rattle.theory.proofs.Independence.{fails-rises}
+use Rattle.theory.proofs.Each.{each-map, each-both}
+use Rattle.theory.proofs.Expectation.{bit, Probable, denominator-positive, expect-not}
+use Rattle.theory.proofs.ExpectationRises.{Raised, expect-rises}
+use Rattle.theory.proofs.StructureFunction.{fails-rises}
 use Rattle.theory.proofs.UnreliabilityIsBottomUp.{unreliability-expected}
 
-pub unreliability-probability : (p : ℕ → Fraction) (t : Tree) → Each (Probable p) (beneath t) → Probability (unreliability p t)
+-- the unreliability is a probability
+pub unreliability-probability : (p : ℕ → Fraction) (t : Tree) → Each (Probable p) (beneath t)
+    → Probability (unreliability p t)
 unreliability-probability p t h =
     rw (unreliability-expected p t) (record {
       positive = denominator-positive p (beneath t) h;
       at-most-one = le-trans (le-add-right _ _) (le-of-eq (expect-not p (beneath t) (fails t) h));
     })
 
-pub unreliability-rises : (p q : ℕ → Fraction) (t : Tree) → Each (Probable p) (beneath t) → Each (Probable q) (beneath t)
-    → Each (Raised p q) (beneath t) → unreliability p t ≼ unreliability q t
+-- it rises with every event's probability
+pub unreliability-rises : (p q : ℕ → Fraction) (t : Tree)
+    → Each (Probable p) (beneath t) → Each (Probable q) (beneath t) → Each (Raised p q) (beneath t)
+    → unreliability p t ≼ unreliability q t
 unreliability-rises p q t hp hq r =
     rw (unreliability-expected p t, unreliability-expected q t)
     (expect-rises p q (beneath t) (λ s. bit (fails t s)) (fails-rises t) hp hq r)
@@ -34,19 +37,15 @@ inside-probability : (x : Interval) (p : Fraction) → Ordered x → Inside x p 
 inside-probability x p h i =
     let top : x .upper .num * p .den ≤ x .upper .den * p .den
     = mul-le-mul-right (p .den) (h .upper-probability .at-most-one) in
-    let low = i .below in
-    let crossed : p .num * x .upper .den ≤ p .den * x .upper .den = omega arith in
+    let crossed : p .num * x .upper .den ≤ p .den * x .upper .den = omega (arith, i .below) in
     record { positive = i .positive; at-most-one = le-of-mul-le-mul-right crossed (h .upper-probability .positive) }
-
-each-both : (P Q R : ℕ → Type 0) → ((e : ℕ) → P e → Q e → R e) → (es : List ℕ) → Each P es → Each Q es → Each R es
-each-both P Q R k [] h g = tt
-each-both P Q R k (e ∷ es) h g = (k e (h .0) (g .0), each-both P Q R k es (h .1) (g .1))
 
 -- the top probability lies between the exact ends, whatever the events' fractions are inside their cuts
 pub between-exact-ends : (cuts : ℕ → Interval) (t : Tree) (p : ℕ → Fraction) → Each (λ e. Ordered (cuts e)) (beneath t)
     → Choice cuts t p → (exact-end down cuts t ≼ unreliability p t) × (unreliability p t ≼ exact-end up cuts t)
 between-exact-ends cuts t p h c =
-    let chosen : Each (Probable p) (beneath t) = each-both _ _ _ (λ e. inside-probability (cuts e) (p e)) (beneath t) h c in (
+    let chosen : Each (Probable p) (beneath t)
+    = each-both _ _ _ (λ e. inside-probability (cuts e) (p e)) (beneath t) h c in (
       unreliability-rises _ p t (each-map _ _ (λ e o. o .lower-probability) (beneath t) h) chosen
           (each-map _ _ (λ e i. i .above) (beneath t) c),
       unreliability-rises p _ t chosen (each-map _ _ (λ e o. o .upper-probability) (beneath t) h)

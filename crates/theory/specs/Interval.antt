@@ -1,4 +1,5 @@
--- Intervals of fractions, their product and difference (004, Definition 4), and the bottom-up method on alpha-cuts (004, equation (6)).
+-- Intervals of fractions, their product and difference (004, Definition 4), and the bottom-up method on alpha-cuts
+-- (004, equation (6)).
 use Prim.Native.Nat.{ℕ, _<_}
 use mathlib.Core.Bool.{cond}
 use mathlib.Core.List.{List, [], _∷_, map}

@@ -4,7 +4,8 @@ use mathlib.Core.Path.{_≡_}
 use mathlib.Core.Logic.{_≢_}
 use Rattle.theory.specs.FaultTree.{GateKind, Tree, Inputs, basic, gate, only, more}
 
--- a node: a basic event with its number, or a gate with its kind, its first link and how many links it has beyond that one
+-- a node: a basic event with its number, or a gate with its kind, its first link and how many links it has
+-- beyond that one
 pub data Node : Type 0 where
   event : ℕ → Node
   joint : GateKind → ℕ → ℕ → Node

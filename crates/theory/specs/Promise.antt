@@ -8,8 +8,8 @@ use Rattle.theory.specs.Unreliability.{unreliability}
 use Rattle.theory.specs.Interval.{Interval, Inside}
 use Rattle.theory.specs.Rounding.{Direction, down, up, End, end-of, reported}
 
--- of a reported and an exact end, the one that must not lie above the other: a lower end is reported at or below the exact
--- one, an upper end at or above it
+-- of a reported and an exact end, the one that must not lie above the other: a lower end is reported at or below the
+-- exact one, an upper end at or above it
 abbrev pub under : Direction → Fraction → Fraction → Fraction
 under down reported exact = reported
 under up reported exact = exact
@@ -18,8 +18,8 @@ abbrev pub over : Direction → Fraction → Fraction → Fraction
 over down reported exact = exact
 over up reported exact = reported
 
--- The reported end r of the exact end x, in the direction w, for E basic events. `near` is written without a difference:
--- the one is below the other and 2 × E − 1 units more.
+-- The reported end r of the exact end x, in the direction w, for E basic events. `near` is written without a
+-- difference: the one is below the other and 2 × E − 1 units more.
 pub record Promised (U : ℕ) (w : Direction) (E : ℕ) (r : End) (x : Fraction) : Type 0 where
   pub marked : T (r .exact) → in-units U (r .value) ≈ x
   pub unmarked : T (not (r .exact)) → under w (in-units U (r .value)) x ≺ over w (in-units U (r .value)) x

@@ -1,4 +1,5 @@
--- Trapezoidal fuzzy numbers (004, example 1) as four numerators over one denominator, and their alpha-cuts (004, example 2).
+-- Trapezoidal fuzzy numbers (004, example 1) as four numerators over one denominator, and their alpha-cuts
+-- (004, example 2).
 use Prim.Native.Nat.{ℕ, _+_, _-_, _*_, _≤_, _<_}
 use Rattle.theory.specs.Interval.{Interval}
 

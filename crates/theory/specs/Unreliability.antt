@@ -70,7 +70,8 @@ abbrev pub total : List ℕ → ℕ
 total [] = 0
 total (x ∷ xs) = x + total xs
 
--- Definition 7: the sum of the weights of all the tree's cut sets. They share a denominator, so their numerators are added.
+-- Definition 7: the sum of the weights of all the tree's cut sets. They share a denominator, so their
+-- numerators are added.
 unfoldable pub unreliability : (ℕ → Fraction) → Tree → Fraction
 unreliability p t = record {
   num = total (map (weight p (beneath t)) (cut-sets t));
