@@ -7,12 +7,11 @@ use Rattle.theory.specs.Fraction.{Fraction, Probability, one, _⊗_, com
 use Rattle.theory.specs.FaultTree.{GateKind, all, any, Tree, Inputs, basic, gate, only, more, events, all-events}
 use Rattle.theory.specs.FaultTree.{Each}
 use Rattle.theory.specs.BottomUp.{product, joined, bottom-up, all-bottom-up}
-use Rattle.theory.proofs.Each.{each-left, each-right}
+use Rattle.theory.proofs.Each.{All, all-map, each-left, each-right}
 
 -- every fraction of a list is a probability
 abbrev pub All-probable : List Fraction → Type 0
-All-probable [] = Unit {0}
-All-probable (x ∷ xs) = Probability x × All-probable xs
+All-probable xs = All Probability xs
 
 -- 1 is a probability
 pub one-probability : Probability one
@@ -36,8 +35,7 @@ products-probable (x ∷ xs) h = product-probability x (product xs) (h .0) (prod
 
 -- 1 minus each of a list of probabilities are probabilities
 pub complements-probable : (xs : List Fraction) → All-probable xs → All-probable (map complement xs)
-complements-probable [] h = tt
-complements-probable (x ∷ xs) h = (complement-probability x (h .0), complements-probable xs (h .1))
+complements-probable xs h = all-map Probability Probability complement complement-probability xs h
 
 -- what a gate makes of probabilities is one
 joined-probability : (k : GateKind) (xs : List Fraction) → All-probable xs → Probability (joined k xs)

@@ -12,7 +12,7 @@ use Rattle.theory.specs.BottomUp.{product, joined, bottom-up, all-bottom
 use Rattle.theory.specs.Interval.{Interval, Ordered, lesser, greater, times, minus, unit-interval}
 use Rattle.theory.specs.Interval.{interval-product, interval-joined, interval-bottom-up, all-intervals}
 use Rattle.theory.proofs.FractionOrder.{at-most-refl, product-monotone, complement-antitone, one-minus}
-use Rattle.theory.proofs.Each.{each-left, each-right}
+use Rattle.theory.proofs.Each.{All, all-map, each-left, each-right}
 use Rattle.theory.proofs.BottomUpProbability.{one-probability, product-probability, complement-probability}
 
 -- the lesser of two fractions in order is the first
@@ -85,8 +85,7 @@ complement-ordered x h = record {
 
 -- every interval of a list is one of probabilities
 abbrev All-ordered : List Interval → Type 0
-All-ordered [] = Unit {0}
-All-ordered (x ∷ xs) = Ordered x × All-ordered xs
+All-ordered xs = All Ordered xs
 
 -- the lower ends of a list of intervals
 abbrev lowers : List Interval → List Fraction
@@ -107,17 +106,20 @@ product-ends (x ∷ xs) h =
       rw whole (product-ordered x (interval-product xs) (h .0) (rest .1)),
     )
 
--- 1 minus each of a list of intervals: they are ordered, and their ends are the complements of the ends
-complements-ends : (xs : List Interval) → All-ordered xs
-    → let others : List Interval = map (minus unit-interval) xs in
-    All-ordered others × (lowers others ≡ map complement (uppers xs)) × (uppers others ≡ map complement (lowers xs))
-complements-ends [] h = (tt, refl, refl)
-complements-ends (x ∷ xs) h =
-    let rest = complements-ends xs (h .1) in (
-      (rw (minus-ends x) (complement-ordered x (h .0)), rest .0),
-      ap₂ _∷_ (one-minus (x .upper)) (rest .1),
-      ap₂ _∷_ (one-minus (x .lower)) (rest .2),
-    )
+-- 1 minus each of a list of intervals are intervals of probabilities
+complements-ordered : (xs : List Interval) → All-ordered xs → All-ordered (map (minus unit-interval) xs)
+complements-ordered xs h =
+    all-map Ordered Ordered (minus unit-interval) (λ x o. rw (minus-ends x) (complement-ordered x o)) xs h
+
+-- their lower ends are the complements of the upper ends
+complements-lower : (xs : List Interval) → lowers (map (minus unit-interval) xs) ≡ map complement (uppers xs)
+complements-lower [] = refl
+complements-lower (x ∷ xs) = ap₂ _∷_ (one-minus (x .upper)) (complements-lower xs)
+
+-- their upper ends are the complements of the lower ends
+complements-upper : (xs : List Interval) → uppers (map (minus unit-interval) xs) ≡ map complement (lowers xs)
+complements-upper [] = refl
+complements-upper (x ∷ xs) = ap₂ _∷_ (one-minus (x .lower)) (complements-upper xs)
 
 -- what a gate makes of a list of intervals: its ends are what it makes of the ends, and it is ordered
 joined-ends : (k : GateKind) (xs : List Interval) → All-ordered xs
@@ -125,11 +127,11 @@ joined-ends : (k : GateKind) (xs : List Interval) → All-ordered xs
 joined-ends all xs h = product-ends xs h
 joined-ends any xs h =
     let others = map (minus unit-interval) xs in
-    let (ordered, lows, ups) = complements-ends xs h in
-    let inner = product-ends others ordered in
+    let inner = product-ends others (complements-ordered xs h) in
     let whole = minus-ends (interval-product others) in (
       whole ∙ ap (λ (y : Interval). between (complement (y .upper)) (complement (y .lower))) (inner .0)
-          ∙ ap₂ (λ (us ls : List Fraction). between (complement (product us)) (complement (product ls))) ups lows,
+          ∙ ap₂ (λ (us ls : List Fraction). between (complement (product us)) (complement (product ls)))
+          (complements-upper xs) (complements-lower xs),
       rw whole (complement-ordered (interval-product others) (inner .1)),
     )
 

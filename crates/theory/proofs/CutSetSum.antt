@@ -3,7 +3,7 @@ use Prim.Native.Nat.{ℕ, _+_, _-_, _*_}
 use mathlib.Core.Path.{_≡_, refl, sym, ap, ap₂, _∙_}
 use mathlib.Core.Bool.{Bool, true, false, not, cond, _||_}
 use mathlib.Core.List.{List, [], _∷_, _++_, map}
-use native.Mathlib.Nat.{add-zero, zero-add, mul-one, one-mul, mul-zero, zero-mul}
+use native.Mathlib.Nat.{add-zero, zero-add, mul-one, mul-zero}
 use native.Mathlib.Omega.{arith}
 use lib.Dec.{T, eqb}
 use Rattle.theory.specs.Fraction.{Fraction}
@@ -11,6 +11,7 @@ use Rattle.theory.specs.FaultTree.{contains}
 use Rattle.theory.specs.Unreliability.{EventSet, empty-set, with-event, subsets, those, weight, total}
 use Rattle.theory.proofs.Missing.{false-of-not, both-of-not-or, eqb-same, eqb-comm}
 use Rattle.theory.proofs.Distinct.{Distinct}
+use Rattle.theory.proofs.Each.{All, all-imply, all-map, all-append}
 use Rattle.theory.proofs.Expectation.{bit, expect}
 
 -- the sum of a weight over the sets that pass a test
@@ -23,8 +24,8 @@ sum-over-cons : (w : EventSet → ℕ) (f : EventSet → Bool) (s : EventSet) (s
 sum-over-cons w f s ss = go (f s)
   where
     go : (b : Bool) → total (map w (cond b (s ∷ those f ss) (those f ss))) ≡ bit b * w s + sum-over w f ss
-    go true = ap (λ (x : ℕ). x + sum-over w f ss) (sym (one-mul (w s)))
-    go false = sym (ap (λ (x : ℕ). x + sum-over w f ss) (zero-mul (w s)) ∙ zero-add (sum-over w f ss))
+    go true = omega arith
+    go false = omega arith
 
 -- the sum over a joined list is the sum of the sums
 sum-over-append : (w : EventSet → ℕ) (f : EventSet → Bool) (ss ts : List EventSet)
@@ -38,45 +39,29 @@ sum-over-map : (w : EventSet → ℕ) (f : EventSet → Bool) (g : EventSet → 
     → sum-over w f (map g ss) ≡ sum-over (λ s. w (g s)) (λ s. f (g s)) ss
 sum-over-map w f g [] = refl
 sum-over-map w f g (s ∷ ss) =
-    sum-over-cons w f (g s) (map g ss) ∙ ap (λ (x : ℕ). bit (f (g s)) * w (g s) + x) (sum-over-map w f g ss)
-    ∙ sym (sum-over-cons (λ s. w (g s)) (λ s. f (g s)) s ss)
-
--- every set of a list has the property P
-abbrev Each-set : (EventSet → Type 0) → List EventSet → Type 0
-Each-set P [] = Unit {0}
-Each-set P (s ∷ ss) = P s × Each-set P ss
-
--- a property of each set of two lists is one of each set of the joined list
-each-set-append : (P : EventSet → Type 0) (ss ts : List EventSet)
-    → Each-set P ss → Each-set P ts → Each-set P (ss ++ ts)
-each-set-append P [] ts h g = g
-each-set-append P (s ∷ ss) ts h g = (h .0, each-set-append P ss ts (h .1) g)
-
--- a property of each set is one of each changed set
-each-set-map : (P Q : EventSet → Type 0) (g : EventSet → EventSet) → ((s : EventSet) → P s → Q (g s))
-    → (ss : List EventSet) → Each-set P ss → Each-set Q (map g ss)
-each-set-map P Q g k [] h = tt
-each-set-map P Q g k (s ∷ ss) h = (k s (h .0), each-set-map P Q g k ss (h .1))
+    omega (
+      arith,
+      sum-over-cons w f (g s) (map g ss),
+      sum-over-map w f g ss,
+      sum-over-cons (λ s. w (g s)) (λ s. f (g s)) s ss,
+    )
 
 -- a weight that is c times another on every set has c times its sum
 sum-over-scale : (c : ℕ) (w v : EventSet → ℕ) (f : EventSet → Bool) (ss : List EventSet)
-    → Each-set (λ s. w s ≡ c * v s) ss → sum-over w f ss ≡ c * sum-over v f ss
+    → All (λ s. w s ≡ c * v s) ss → sum-over w f ss ≡ c * sum-over v f ss
 sum-over-scale c w v f [] h = sym (mul-zero c)
 sum-over-scale c w v f (s ∷ ss) h =
-    sum-over-cons w f s ss
-    ∙ ap₂ (λ (x y : ℕ). bit (f s) * x + y) (h .0) (sum-over-scale c w v f ss (h .1))
-    ∙ (omega arith)
-    ∙ ap (λ (x : ℕ). c * x) (sym (sum-over-cons v f s ss))
+    rw (sum-over-cons w f s ss, sum-over-cons v f s ss, h .0, sum-over-scale c w v f ss (h .1)) (omega arith)
 
 -- a set of listed events lacks each event that is not listed
-subsets-lack : (e : ℕ) (es : List ℕ) → T (not (contains e es)) → Each-set (λ s. s e ≡ false) (subsets es)
+subsets-lack : (e : ℕ) (es : List ℕ) → T (not (contains e es)) → All (λ s. s e ≡ false) (subsets es)
 subsets-lack e [] h = (refl, tt)
 subsets-lack e (x ∷ xs) h =
     let (apart, absent) = both-of-not-or (eqb e x) (contains e xs) h in
     let other : eqb x e ≡ false = eqb-comm x e ∙ false-of-not (eqb e x) apart in
     let rest = subsets-lack e xs absent in
-    each-set-append _ (subsets xs) (map (with-event x) (subsets xs)) rest
-    (each-set-map _ _ (with-event x) (λ s k. ap₂ _||_ other k) (subsets xs) rest)
+    all-append _ (subsets xs) (map (with-event x) (subsets xs)) rest
+    (all-map _ _ (with-event x) (λ s k. ap₂ _||_ other k) (subsets xs) rest)
 
 -- an event that is not listed changes no weight
 weight-with : (p : ℕ → Fraction) (e : ℕ) (es : List ℕ) (s : EventSet) → T (not (contains e es))
@@ -88,28 +73,23 @@ weight-with p e (x ∷ xs) s h =
     (false-of-not (eqb e x) apart) (weight-with p e xs s absent)
 
 -- an event outside a set multiplies its weight by 1 minus the event's probability
-weight-scaled : (p : ℕ → Fraction) (e : ℕ) (es : List ℕ) (ss : List EventSet) → Each-set (λ s. s e ≡ false) ss
-    → Each-set (λ s. weight p (e ∷ es) s ≡ (p e .den - p e .num) * weight p es s) ss
-weight-scaled p e es [] h = tt
-weight-scaled p e es (s ∷ ss) h =
-    (ap (λ (b : Bool). cond b (p e .num) (p e .den - p e .num) * weight p es s) (h .0), weight-scaled p e es ss (h .1))
+weight-outside : (p : ℕ → Fraction) (e : ℕ) (es : List ℕ) (s : EventSet) → s e ≡ false
+    → weight p (e ∷ es) s ≡ (p e .den - p e .num) * weight p es s
+weight-outside p e es s out = ap (λ (b : Bool). cond b (p e .num) (p e .den - p e .num) * weight p es s) out
 
 -- an event added to a set multiplies its weight by the event's probability
-weight-scaled-with : (p : ℕ → Fraction) (e : ℕ) (es : List ℕ) → T (not (contains e es)) → (ss : List EventSet)
-    → Each-set (λ s. weight p (e ∷ es) (with-event e s) ≡ p e .num * weight p es s) ss
-weight-scaled-with p e es h [] = tt
-weight-scaled-with p e es h (s ∷ ss) = (
-  ap₂ (λ (b : Bool) (y : ℕ). cond (b || s e) (p e .num) (p e .den - p e .num) * y)
-      (eqb-same e) (weight-with p e es s h),
-  weight-scaled-with p e es h ss,
-)
+weight-added : (p : ℕ → Fraction) (e : ℕ) (es : List ℕ) (s : EventSet) → T (not (contains e es))
+    → weight p (e ∷ es) (with-event e s) ≡ p e .num * weight p es s
+weight-added p e es s h =
+    ap₂ (λ (b : Bool) (y : ℕ). cond (b || s e) (p e .num) (p e .den - p e .num) * y)
+    (eqb-same e) (weight-with p e es s h)
 
 -- the sum over the sets without a further event
 sum-without-event : (p : ℕ → Fraction) (e : ℕ) (es : List ℕ) (f : EventSet → Bool) → T (not (contains e es))
     → sum-over (weight p (e ∷ es)) f (subsets es) ≡ (p e .den - p e .num) * sum-over (weight p es) f (subsets es)
 sum-without-event p e es f h =
     sum-over-scale (p e .den - p e .num) (weight p (e ∷ es)) (weight p es) f (subsets es)
-    (weight-scaled p e es (subsets es) (subsets-lack e es h))
+    (all-imply _ _ (weight-outside p e es) (subsets es) (subsets-lack e es h))
 
 -- the sum over the sets with it
 sum-with-event : (p : ℕ → Fraction) (e : ℕ) (es : List ℕ) (f : EventSet → Bool) → T (not (contains e es))
@@ -117,7 +97,8 @@ sum-with-event : (p : ℕ → Fraction) (e : ℕ) (es : List ℕ) (f : EventSet 
     ≡ p e .num * sum-over (weight p es) (λ s. f (with-event e s)) (subsets es)
 sum-with-event p e es f h =
     sum-over-map (weight p (e ∷ es)) f (with-event e) (subsets es)
-    ∙ sum-over-scale (p e .num) _ (weight p es) _ (subsets es) (weight-scaled-with p e es h (subsets es))
+    ∙ sum-over-scale (p e .num) _ (weight p es) _ (subsets es)
+    (all-imply _ _ (λ s out. weight-added p e es s h) (subsets es) (subsets-lack e es h))
 
 -- the literal sum of the weights of the sets that pass a test is the test's expectation
 pub sum-is-expectation : (p : ℕ → Fraction) (es : List ℕ) (f : EventSet → Bool) → Distinct es

@@ -96,13 +96,13 @@ pub record Apart (xs ys : List ℕ) : Type 0 where
 -- the parts of a list without repeats have no repeats and share nothing
 pub distinct-append : (xs ys : List ℕ) → Distinct (xs ++ ys) → Apart xs ys
 distinct-append xs ys d = record {
-  left = at-most-once-distinct xs (λ e. omega (arith, both e));
-  right = at-most-once-distinct ys (λ e. omega (arith, both e));
-  nothing-shared = λ e t. not-counted-absent e ys (omega (arith, both e, contained-counted e xs t));
+  left = at-most-once-distinct xs (λ e. omega (arith, together e));
+  right = at-most-once-distinct ys (λ e. omega (arith, together e));
+  nothing-shared = λ e t. not-counted-absent e ys (omega (arith, together e, contained-counted e xs t));
 }
   where
-    both : (e : ℕ) → multiplicity e xs + multiplicity e ys ≤ 1
-    both e = rw (summed-append (is e) xs ys) at (distinct-at-most-once (xs ++ ys) d e)
+    together : (e : ℕ) → multiplicity e xs + multiplicity e ys ≤ 1
+    together e = rw (summed-append (is e) xs ys) at (distinct-at-most-once (xs ++ ys) d e)
 
 -- nothing is removed where nothing stands twice
 pub distinct-each-once : (es : List ℕ) → Distinct es → each-once es ≡ es

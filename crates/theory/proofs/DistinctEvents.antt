@@ -67,27 +67,28 @@ module _ (table : Table) (rank : ℕ → ℕ) (ranked : Ranked table rank) (numb
     not-linked-worth table rank ranked numbered once v,
   )
 
-  -- so is every node: climb from input to gate, n ranks at most
-  climb : (v : ℕ → ℕ) (n i : ℕ) → i < table .size → table .size ≤ rank i + n →
+  -- so is every node at most n ranks below the highest: its gate is worth no less, and stands higher
+  worth-at-most-within : (v : ℕ → ℕ) (n i : ℕ) → i < table .size → table .size ≤ rank i + n →
       worth v (tree-of table i) ≤ sum (event-count table) v
-  climb v zero i l h = absurd (omega (arith, ranked .rank-below i l))
-  climb v (suc n) i l h = go (linked-or-not (table .link) (link-count table) i) (climb v n)
+  worth-at-most-within v zero i l h = absurd (omega (arith, ranked .rank-below i l))
+  worth-at-most-within v (suc n) i l h =
+      go (linked-or-not (table .link) (link-count table) i) (worth-at-most-within v n)
     where
       go : Linked (table .link) (link-count table) i ⊎ Not-linked (table .link) (link-count table) i →
           ((m : ℕ) → m < table .size → table .size ≤ rank m + n →
           worth v (tree-of table m) ≤ sum (event-count table) v) →
           worth v (tree-of table i) ≤ sum (event-count table) v
       go (inr none) higher = not-linked-at-most v i l none
-      go (inl (j, k, q)) higher = up (gate-of table numbered j k)
+      go (inl (j, k, q)) higher = by-gate (gate-of table numbered j k)
         where
-          up : Owner table (table .size) j → worth v (tree-of table i) ≤ sum (event-count table) v
-          up (m, inside, owns) =
+          by-gate : Owner table (table .size) j → worth v (tree-of table i) ≤ sum (event-count table) v
+          by-gate (m, inside, owns) =
               let falls : rank i < rank m = rw q at (ranked .rank-falls m j inside owns) in
               le-trans (rw q at (owned-worth v m j inside owns)) (higher m inside (omega arith))
 
   -- every node is worth at most all basic events, each once
   pub worth-at-most : (v : ℕ → ℕ) (i : ℕ) → i < table .size → worth v (tree-of table i) ≤ sum (event-count table) v
-  worth-at-most v i l = climb v (table .size) i l (omega arith)
+  worth-at-most v i l = worth-at-most-within v (table .size) i l (omega arith)
 
   -- the tree of a node holds only events of the table
   pub events-below : (i : ℕ) → i < table .size → (e : ℕ) → T (contains e (events (tree-of table i))) →

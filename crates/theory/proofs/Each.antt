@@ -1,14 +1,35 @@
--- A property of each event of a list: of each event of its parts, of whatever it contains, and of each event at or
--- beneath a node. Assumes nothing.
+-- A property of each member of a list. Of a list of events: of each event of its parts, of whatever it contains, and of
+-- each event at or beneath a node. Assumes nothing.
 use Prim.Native.Nat.{ℕ}
 use mathlib.Core.Path.{_≡_, refl}
 use mathlib.Core.Bool.{Bool, true, false, _||_}
-use mathlib.Core.List.{List, [], _∷_, _++_}
+use mathlib.Core.List.{List, [], _∷_, _++_, map}
 use lib.Dec.{T, eqb}
 use borrow.Author.Tests.{eqb-true}
 use Rattle.theory.specs.FaultTree.{Tree, events, contains, beneath, Each}
 use Rattle.theory.proofs.Missing.{or-right, eqb-same}
 use Rattle.theory.proofs.Distinct.{contains-each-once}
+
+-- every member of a list has the property P: `Each` of specs/, for lists of anything
+abbrev pub All : {A : Type 0} → (A → Type 0) → List A → Type 0
+All P [] = Unit {0}
+All P (x ∷ xs) = P x × All P xs
+
+-- a property that follows from another holds of every member where that one does
+pub all-imply : {A : Type 0} (P Q : A → Type 0) → ((x : A) → P x → Q x) → (xs : List A) → All P xs → All Q xs
+all-imply P Q k [] h = tt
+all-imply P Q k (x ∷ xs) h = (k x (h .0), all-imply P Q k xs (h .1))
+
+-- a property that g gives holds of every member that g was applied to
+pub all-map : {A B : Type 0} (P : A → Type 0) (Q : B → Type 0) (g : A → B) → ((x : A) → P x → Q (g x))
+    → (xs : List A) → All P xs → All Q (map g xs)
+all-map P Q g k [] h = tt
+all-map P Q g k (x ∷ xs) h = (k x (h .0), all-map P Q g k xs (h .1))
+
+-- a property of every member of two lists is one of every member of the joined list
+pub all-append : {A : Type 0} (P : A → Type 0) (xs ys : List A) → All P xs → All P ys → All P (xs ++ ys)
+all-append P [] ys h g = g
+all-append P (x ∷ xs) ys h g = (h .0, all-append P xs ys (h .1) g)
 
 -- a property of every event is one of each event of a list
 pub each-of-all : (P : ℕ → Type 0) → ((e : ℕ) → P e) → (es : List ℕ) → Each P es

@@ -11,7 +11,7 @@ use Rattle.theory.specs.FaultTree.{GateKind, all, any, Each}
 use Rattle.theory.specs.Unreliability.{EventSet, every, some, verdict, common-denominator}
 use Rattle.theory.specs.BottomUp.{product, joined}
 use Rattle.theory.proofs.Missing.{not-and}
-use Rattle.theory.proofs.Each.{each-map}
+use Rattle.theory.proofs.Each.{All, all-map, each-map}
 use Rattle.theory.proofs.BottomUpProbability.{All-probable, products-probable, complements-probable}
 use Rattle.theory.proofs.Expectation.{bit, expect, Ignores, Probable, denominator-positive, expect-one}
 use Rattle.theory.proofs.Expectation.{expect-not}
@@ -70,8 +70,7 @@ holds-and p es f g x y h k hf hg =
 
 -- every test of a list ignores e
 abbrev pub All-ignore : ℕ → List (EventSet → Bool) → Type 0
-All-ignore e [] = Unit {0}
-All-ignore e (f ∷ fs) = Ignores e f × All-ignore e fs
+All-ignore e fs = All (λ f. Ignores e f) fs
 
 -- at each event a test is independent of those after it
 abbrev pub All-separated : (ℕ → Fraction) → List ℕ → List (EventSet → Bool) → Type 0
@@ -112,8 +111,7 @@ negated fs = map (λ f s. not (f s)) fs
 
 -- negated tests ignore what the tests do
 negated-ignore : (e : ℕ) (fs : List (EventSet → Bool)) → All-ignore e fs → All-ignore e (negated fs)
-negated-ignore e [] h = tt
-negated-ignore e (f ∷ fs) h = (λ s. ap not (h .0 s), negated-ignore e fs (h .1))
+negated-ignore e fs h = all-map _ _ (λ f s. not (f s)) (λ f i s. ap not (i s)) fs h
 
 -- negated tests are independent where the tests are
 negated-separated : (p : ℕ → Fraction) (es : List ℕ) (fs : List (EventSet → Bool))
