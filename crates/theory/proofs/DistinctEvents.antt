@@ -67,7 +67,7 @@ module _ (table : Table) (rank : ℕ → ℕ) (ranked : Ranked table rank) (numb
     not-linked-worth table rank ranked numbered once v,
   )
 
-  -- so is every node at most n ranks below the highest: its gate is worth no less, and stands higher
+  -- so is every node with a rank at most n below the number of nodes: its gate is worth no less and has a higher rank
   worth-at-most-within : (v : ℕ → ℕ) (n i : ℕ) → i < table .size → table .size ≤ rank i + n →
       worth v (tree-of table i) ≤ sum (event-count table) v
   worth-at-most-within v zero i l h = absurd (omega (arith, ranked .rank-below i l))
