@@ -1,4 +1,5 @@
--- What follows from specs/, in the order of the argument. The main theorems are in `ReportedEnds`.
+-- What follows from specs/, in the order of the argument. The main theorems are in `ReportedEnds`, and on tables of
+-- nodes in `NodePromised`.
 -- Lists and fractions.
 pub mod Missing
 pub mod Sums
