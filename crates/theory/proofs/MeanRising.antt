@@ -1,5 +1,7 @@
--- The mean of opinions is ordered as a ≤ b = c ≤ d ≤ 1 wherever somebody with a score spoke. Assumes nothing.
+-- An expert who said nothing has no part in the mean, and the mean is ordered as a ≤ b = c ≤ d ≤ 1 wherever somebody with
+-- a score spoke. Assumes nothing.
 use Prim.Native.Nat.{ℕ, zero-le, _*_, _≤_, _<_}
+use mathlib.Core.Path.{_≡_, refl}
 use mathlib.Core.List.{List, [], _∷_}
 use native.Mathlib.Nat.{le-refl, add-le-add, mul-le-mul-left, mul-pos}
 use native.Mathlib.Omega.{arith}
@@ -7,6 +9,10 @@ use lib.Dec.{lit<, lit≤}
 use Rattle.theory.specs.Trapezoid.{Rising}
 use Rattle.theory.specs.Opinion.{Term, very-low, low, fairly-low, medium, fairly-high, high, very-high, term-a}
 use Rattle.theory.specs.Opinion.{term-b, term-d, Opinion, says, silent, spoken, weighted, mean}
+
+-- an expert who said nothing changes no mean
+pub silent-left-out : (score : ℕ) (os : List Opinion) → mean (silent score ∷ os) ≡ mean os
+silent-left-out score os = refl
 
 -- a mean rises with the numbers of the terms
 weighted-monotone : (f g : Term → ℕ) → ((t : Term) → f t ≤ g t) → (os : List Opinion) → weighted f os ≤ weighted g os

@@ -6,11 +6,8 @@ use lib.ListN.{getD}
 use Rattle.theory.specs.FaultTree.{GateKind, all, any, Tree, basic, gate, only, more}
 use Rattle.theory.specs.Trapezoid.{Trapezoid, cut}
 use Rattle.theory.specs.Opinion.{says, low, fairly-low, medium, fairly-high, high, mean}
+use Rattle.theory.specs.Unit.{billion}
 use Rattle.theory.specs.Rounding.{Direction, End, reported}
-
--- U for billionths
-abbrev pub billion : ℕ
-billion = 1_000_000_000
 
 -- four numbers in billionths
 abbrev pub numbers : ℕ → ℕ → ℕ → ℕ → Trapezoid

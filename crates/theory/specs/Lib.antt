@@ -11,4 +11,5 @@ pub mod Opinion
 pub mod Rounding
 pub mod Promise
 pub mod NodeTable
+pub mod Unit
 pub mod Examples
