@@ -1,6 +1,6 @@
 -- The main theorems on a table: every node's reported ends keep their promises for the table's E events, and every
 -- node's unreliability lies in the reported interval. Assumes nothing.
-use Prim.Native.Nat.{ℕ, _<_}
+use Prim.Native.Nat.{ℕ, _≤_, _<_}
 use Rattle.theory.specs.Fraction.{Fraction, _≼_, in-units}
 use Rattle.theory.specs.FaultTree.{events, Each}
 use Rattle.theory.specs.Unreliability.{unreliability}
@@ -10,7 +10,7 @@ use Rattle.theory.specs.Promise.{Promised, exact-end}
 use Rattle.theory.specs.NodeTable.{Table, tree-of, event-count, Numbered, Ranked, Linked-once}
 use Rattle.theory.proofs.Each.{each-map, each-beneath}
 use Rattle.theory.proofs.DistinctEvents.{each-event-below, events-distinct, events-few}
-use Rattle.theory.proofs.ReportedEnds.{reported-promised, top-contained}
+use Rattle.theory.proofs.ReportedEnds.{reported-at-most, reported-promised, top-contained}
 
 module _ (table : Table) (rank : ℕ → ℕ) (ranked : Ranked table rank) (numbered : Numbered table)
     (once : Linked-once table) (cuts : ℕ → Interval) (ordered : (e : ℕ) → e < event-count table → Ordered (cuts e))
@@ -21,6 +21,10 @@ module _ (table : Table) (rank : ℕ → ℕ) (ranked : Ranked table rank) (numb
   each-of-table P h i l =
       each-map (λ e. e < event-count table) P h (events (tree-of table i))
       (each-event-below table rank ranked numbered once i l)
+
+  -- no reported end passes 1
+  pub node-at-most : (w : Direction) (i : ℕ) → i < table .size → reported U w cuts (tree-of table i) .value ≤ U
+  node-at-most w i l = reported-at-most cuts (tree-of table i) (each-of-table _ ordered i l) U positive w
 
   -- demand 3, of every node
   pub node-promised : (w : Direction) (i : ℕ) → i < table .size

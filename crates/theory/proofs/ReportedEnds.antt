@@ -21,6 +21,7 @@ use Rattle.theory.proofs.Expectation.{Probable}
 use Rattle.theory.proofs.UnreliabilityIsBottomUp.{unreliability-is-bottom-up, distinct-independent}
 use Rattle.theory.proofs.UnreliabilityRises.{unreliability-probability, between-exact-ends}
 use Rattle.theory.proofs.CutIsBottomUp.{cut-is-bottom-up}
+use Rattle.theory.proofs.RoundedTree.{rounded-end-gap}
 use Rattle.theory.proofs.Promised.{end-promised, promised-respects}
 
 -- both ends of an interval of probabilities are probabilities
@@ -49,6 +50,10 @@ module _ (cuts : ℕ → Interval) (t : Tree) (ordered : Each (λ e. Ordered (cu
   -- a node's exact ends are probabilities
   pub exact-end-probability : (w : Direction) → Probability (exact-end w cuts t)
   exact-end-probability w = unreliability-probability _ t (each-beneath _ t (ends-probable w))
+
+  -- no reported end passes 1
+  pub reported-at-most : (U : ℕ) → 0 < U → (w : Direction) → reported U w cuts t .value ≤ U
+  reported-at-most U pos w = rounded-end-gap U pos w (λ e. end-of w (cuts e)) t (ends-probable w) .bounded
 
   module _ (distinct : Distinct (events t)) where
     -- a node's exact end is the bottom-up reckoning at the events' ends

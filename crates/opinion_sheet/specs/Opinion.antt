@@ -1,0 +1,28 @@
+-- The opinions of an entry as the theory has them: an expert's score byte and term byte are what the expert said.
+-- Assumes nothing.
+use Prim.Native.Nat.{ℕ, zero, suc, _+_, _-_}
+use mathlib.Core.List.{List, [], _∷_, _++_}
+use mathlib.Core.Bool.{cond}
+use lib.ListN.{getD}
+use lib.Dec.{eqb}
+use Rattle.theory.specs.Opinion.{Term, very-low, low, fairly-low, medium, fairly-high, high, very-high}
+use Rattle.theory.specs.Opinion.{Opinion, says, silent}
+use Rattle.opinion_sheet.specs.Format.{byte-at, score-of}
+
+-- The terms in the order of their codes.
+abbrev pub terms-in-order : List Term
+terms-in-order = very-low ∷ low ∷ fairly-low ∷ medium ∷ fairly-high ∷ high ∷ very-high ∷ []
+
+-- The term of a code: 1 is Very Low, 7 is Very High.
+abbrev pub term-of : ℕ → Term
+term-of code = getD terms-in-order (code - 1) very-low
+
+-- What an expert with a score said by a term byte: 0 is nothing.
+abbrev pub opinion-of : ℕ → ℕ → Opinion
+opinion-of score term = cond (eqb term 0) (silent score) (says score (term-of term))
+
+-- The opinions of the first n experts where the terms begin at a place.
+unfoldable pub opinions-among : List ℕ → ℕ → ℕ → List Opinion
+opinions-among s terms zero = []
+opinions-among s terms (suc n) =
+    opinions-among s terms n ++ (opinion-of (score-of s n) (byte-at s (terms + n)) ∷ [])

@@ -1,0 +1,21 @@
+-- `format::input_count_at` meets its contract: the kind that was read says which case of `inputCount` holds.
+-- Assumes nothing.
+use borrow.Author.Needs.{needs}
+use Rattle.tree_file.proofs.RecordsKept.{read-inputs, read-none}
+use Rattle.tree_file.proofs.format.input_count_at.Statement.{statement}
+use Rattle.tree_file.proofs.format.input_count_at.Tie as tie
+
+kind-at-requires : tie.Need-kind-at-requires
+kind-at-requires c κs = search needs
+
+returns : tie.Need-returns
+returns c = search (needs, read-none)
+
+field-b-at-requires : tie.Need-field-b-at-requires
+field-b-at-requires c κs = search needs
+
+returns-2 : tie.Need-returns-2
+returns-2 c = search (needs, read-inputs)
+
+pub input-count-at-spec : {M : Type 1} → statement M
+input-count-at-spec = tie.close (tie.spec kind-at-requires returns field-b-at-requires returns-2)

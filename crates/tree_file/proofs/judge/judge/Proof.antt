@@ -1,0 +1,68 @@
+-- `judge::judge` meets its contract, from those of the parts.
+-- Assumes nothing.
+use borrow.Author.Needs.{needs}
+use Rattle.tree_file.proofs.JudgedParts.{all-accepted, header-long, header-stop, links-refused, records-free}
+use Rattle.tree_file.proofs.JudgedParts.{records-refused, sized}
+use Rattle.tree_file.proofs.judge.judge.Statement.{statement}
+use Rattle.tree_file.proofs.judge.judge.Tie as tie
+
+judge-header-requires : tie.Need-judge-header-requires
+judge-header-requires c κs = search needs
+
+enum-known-header : tie.Need-enum-known-header
+enum-known-header c = search needs
+
+returns : tie.Need-returns
+returns c = search (needs, header-stop)
+
+enum-told : tie.Need-enum-told
+enum-told c = search needs
+
+field-at-requires : tie.Need-field-at-requires
+field-at-requires c κs = search (needs, header-long)
+
+judge-records-requires : tie.Need-judge-records-requires
+judge-records-requires c κs = search (needs, sized)
+
+enum-known-records : tie.Need-enum-known-records
+enum-known-records c = search needs
+
+enum-told-2 : tie.Need-enum-told-2
+enum-told-2 c = search needs
+
+returns-2 : tie.Need-returns-2
+returns-2 c = search (needs, records-refused)
+
+judge-links-requires : tie.Need-judge-links-requires
+judge-links-requires c κs = search (needs, sized, records-free)
+
+enum-known-links : tie.Need-enum-known-links
+enum-known-links c = search needs
+
+returns-3 : tie.Need-returns-3
+returns-3 c = search (needs, links-refused)
+
+enum-told-3 : tie.Need-enum-told-3
+enum-told-3 c = search needs
+
+returns-4 : tie.Need-returns-4
+returns-4 c = search (needs, all-accepted)
+
+pub judge-spec : {M : Type 1} → statement M
+judge-spec =
+    tie.close
+    (tie.spec
+    judge-header-requires
+    enum-known-header
+    returns
+    enum-told
+    field-at-requires
+    judge-records-requires
+    enum-known-records
+    enum-told-2
+    returns-2
+    judge-links-requires
+    enum-known-links
+    returns-3
+    enum-told-3
+    returns-4)

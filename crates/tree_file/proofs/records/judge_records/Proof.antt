@@ -1,0 +1,102 @@
+-- `records::judge_records` meets its contract. The loop's invariant: the records passed have no fault, and the counts
+-- are theirs.
+-- Assumes nothing.
+use Prim.Native.Nat.{_-_}
+use borrow.Author.Needs.{needs}
+use Rattle.tree_file.proofs.RecordsTurn.{RecordsBefore, basic-more, gate-more, inputs-missing, records-accepted}
+use Rattle.tree_file.proofs.RecordsTurn.{records-none, records-stop}
+use Rattle.tree_file.proofs.records.judge_records.Statement.{statement}
+use Rattle.tree_file.proofs.records.judge_records.Tie as tie
+
+abbrev Inv-loop : tie.InvT-loop
+Inv-loop file nodes events₀ inputs₀ i₀ events inputs i = RecordsBefore file nodes i events inputs
+
+abbrev μ-loop : tie.MeasureT-loop
+μ-loop file nodes events₀ inputs₀ i₀ events inputs i = nodes - i
+
+loop-holds : tie.Need-loop-holds Inv-loop μ-loop
+loop-holds c = records-none _ _
+
+judge-record-requires : tie.Need-judge-record-requires Inv-loop μ-loop
+judge-record-requires c κs = search needs
+
+enum-known-fault : tie.Need-enum-known-fault Inv-loop μ-loop
+enum-known-fault c = search needs
+
+returns : tie.Need-returns Inv-loop μ-loop
+returns c = search (needs, records-stop)
+
+enum-told : tie.Need-enum-told Inv-loop μ-loop
+enum-told c = search needs
+
+kind-at-requires : tie.Need-kind-at-requires Inv-loop μ-loop
+kind-at-requires c κs = search needs
+
+field-b-at-requires : tie.Need-field-b-at-requires Inv-loop μ-loop
+field-b-at-requires c κs = search needs
+
+add-i : tie.Need-add-i Inv-loop μ-loop
+add-i c = search needs
+
+add-events : tie.Need-add-events Inv-loop μ-loop
+add-events c = search needs
+
+loop-less : tie.Need-loop-less Inv-loop μ-loop
+loop-less c = search needs
+
+loop-again : tie.Need-loop-again Inv-loop μ-loop
+loop-again c = search (needs, basic-more)
+
+add-inputs : tie.Need-add-inputs Inv-loop μ-loop
+add-inputs c = search needs
+
+loop-less-2 : tie.Need-loop-less-2 Inv-loop μ-loop
+loop-less-2 c = search needs
+
+loop-again-2 : tie.Need-loop-again-2 Inv-loop μ-loop
+loop-again-2 c = search (needs, gate-more)
+
+mul-links-at : tie.Need-mul-links-at Inv-loop μ-loop
+mul-links-at c = search needs
+
+add-links-at : tie.Need-add-links-at Inv-loop μ-loop
+add-links-at c = search needs
+
+sub-if2 : tie.Need-sub-if2 Inv-loop μ-loop
+sub-if2 c = search needs
+
+returns-2 : tie.Need-returns-2 Inv-loop μ-loop
+returns-2 c = search (needs, inputs-missing)
+
+field-at-requires : tie.Need-field-at-requires Inv-loop μ-loop
+field-at-requires c κs = search needs
+
+returns-3 : tie.Need-returns-3 Inv-loop μ-loop
+returns-3 c = search (needs, records-accepted)
+
+pub judge-records-spec : {M : Type 1} → statement M
+judge-records-spec =
+    tie.close
+    (tie.spec
+    Inv-loop
+    μ-loop
+    loop-holds
+    judge-record-requires
+    enum-known-fault
+    returns
+    enum-told
+    kind-at-requires
+    field-b-at-requires
+    add-i
+    add-events
+    loop-less
+    loop-again
+    add-inputs
+    loop-less-2
+    loop-again-2
+    mul-links-at
+    add-links-at
+    sub-if2
+    returns-2
+    field-at-requires
+    returns-3)

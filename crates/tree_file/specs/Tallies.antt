@@ -1,0 +1,25 @@
+-- Counts over the first records of a file.
+-- Assumes nothing.
+use Prim.Native.Nat.{ℕ, zero, suc, _+_}
+use mathlib.Core.Bool.{Bool, cond}
+use mathlib.Core.List.{List}
+use lib.Dec.{eqb}
+use Rattle.tree_file.specs.Format.{field-b, kind}
+
+-- Node i is a basic event.
+abbrev pub is-basic : List ℕ → ℕ → Bool
+is-basic file i = eqb (kind file i) 0
+
+-- The number of inputs of node i: b of a gate, none of a basic event.
+unfoldable pub input-count : List ℕ → ℕ → ℕ
+input-count file i = cond (is-basic file i) 0 (field-b file i)
+
+-- The number of basic events among the first i nodes.
+unfoldable pub events-before : List ℕ → ℕ → ℕ
+events-before file zero = 0
+events-before file (suc i) = events-before file i + cond (is-basic file i) 1 0
+
+-- The sum of b over the gates among the first i nodes.
+unfoldable pub inputs-before : List ℕ → ℕ → ℕ
+inputs-before file zero = 0
+inputs-before file (suc i) = inputs-before file i + input-count file i
