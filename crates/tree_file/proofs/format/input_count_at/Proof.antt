@@ -1,4 +1,4 @@
--- `format::input_count_at` meets its contract: the kind that was read says which case of `inputCount` holds.
+-- `format::input_count_at` meets its contract: the kind that was read says which case of `input-count` holds.
 -- Assumes nothing.
 use borrow.Author.Needs.{needs}
 use Rattle.tree_file.proofs.RecordsKept.{read-inputs, read-none}

@@ -1,4 +1,4 @@
--- `header::judge_header` meets its contract: at each return the tests that led there say which rule of `headerFault`
+-- `header::judge_header` meets its contract: at each return the tests that led there say which rule of `header-fault`
 -- is the first broken.
 -- Assumes nothing.
 use borrow.Author.Needs.{needs}

@@ -1,4 +1,4 @@
--- `records::judge_record` meets its contract: at each return the tests that led there say which rule of `recordFault`
+-- `records::judge_record` meets its contract: at each return the tests that led there say which rule of `record-fault`
 -- is the first broken.
 -- Assumes nothing.
 use Prim.Native.Nat.{_<_}
