@@ -1,0 +1,55 @@
+-- `vectors::checksum::units_sum` is safe and ends. Assumes nothing.
+use Prim.Native.Nat.{_-_}
+use lib.ListN.{length}
+use borrow.Author.Needs.{needs}
+use Rattle.vectors.proofs.checksum.units_sum.Statement.{statement}
+use Rattle.vectors.proofs.checksum.units_sum.Tie as tie
+
+abbrev Inv-loop : tie.InvT-loop
+Inv-loop units sum₀ i₀ sum i = Unit {0}
+
+abbrev μ-loop : tie.MeasureT-loop
+μ-loop units sum₀ i₀ sum i = length units - i
+
+loop-holds : tie.Need-loop-holds Inv-loop μ-loop
+loop-holds c = search needs
+
+mul-of-units : tie.Need-mul-of-units Inv-loop μ-loop
+mul-of-units c = search needs
+
+shared-slice-read-of-units : tie.Need-shared-slice-read-of-units Inv-loop μ-loop
+shared-slice-read-of-units c = search needs
+
+of-units-requires : tie.Need-of-units-requires Inv-loop μ-loop
+of-units-requires c κs = search needs
+
+with-place-requires : tie.Need-with-place-requires Inv-loop μ-loop
+with-place-requires c κs = search needs
+
+add-i : tie.Need-add-i Inv-loop μ-loop
+add-i c = search needs
+
+loop-less : tie.Need-loop-less Inv-loop μ-loop
+loop-less c = search needs
+
+loop-again : tie.Need-loop-again Inv-loop μ-loop
+loop-again c = search needs
+
+returns : tie.Need-returns Inv-loop μ-loop
+returns c = search needs
+
+pub units-sum-spec : {M : Type 1} → statement M
+units-sum-spec =
+    tie.close
+    (tie.spec
+    Inv-loop
+    μ-loop
+    loop-holds
+    mul-of-units
+    shared-slice-read-of-units
+    of-units-requires
+    with-place-requires
+    add-i
+    loop-less
+    loop-again
+    returns)

@@ -1,0 +1,27 @@
+// Runs the list of calls on standard input on the monitor, and prints each answer with the state, the stores and the
+// slices after it. reference/src/vectors.rs says the list's format, and prints the same text from a second monitor.
+mod ask;
+mod call;
+mod checksum;
+mod desk;
+mod fill;
+mod hand_in;
+mod print;
+mod run;
+
+fn main() {
+    let mut tree = [0u8; 7200];
+    let mut sheet = [0u8; 17500];
+    let mut file = [0u8; 17500];
+    let mut lower = [0u32; 1100];
+    let mut upper = [0u32; 1100];
+    let mut marks = [0u8; 1100];
+    run::run(
+        &mut tree,
+        &mut sheet,
+        &mut file,
+        &mut lower,
+        &mut upper,
+        &mut marks,
+    );
+}

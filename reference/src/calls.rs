@@ -1,0 +1,250 @@
+//! A list of calls, and every answer with the state, the stores and the slices after it.
+//!
+//! One call or setting a line, words parted by one space, each line ended by a line feed. Numbers are decimal and
+//! below 2^32. HEX is two digits a byte, or `-` for no bytes. At first both stores are empty and nothing is held.
+//!
+//!   stores T S         the tree store gets T bytes and the sheet store S; bytes there stay, new ones are ee
+//!   poke tree I B      byte I of the tree store becomes B, and `poke sheet I B` likewise
+//!   state T S          the held lengths become T and S, 0 for nothing held
+//!   tree HEX           hand in a tree
+//!   sheet HEX          hand in a sheet
+//!   drop               drop both
+//!   judge K N          judge level K of N: refusals 13 and 21 to 24
+//!   question K N L U M question level K of N, with work slices of L, U and M places
+//!
+//! The first three are settings and print nothing. A question's slices hold 4000000001, 4000000002 and 238 at every
+//! place before it. Store and slice lengths are at most 65536. Each call prints its answer, one of
+//!
+//!   accepted
+//!   dropped
+//!   nodes N events E
+//!   lower UNITS MARK upper UNITS MARK events E
+//!   refused R at P
+//!
+//! where MARK is `=` for exact and `~` for not, and then all that there is after it:
+//!
+//!   state T S
+//!   tree HEX
+//!   sheet HEX
+//!   lower UNITS ...    these three after a question alone; `lower` and nothing more for a slice of 0 places
+//!   upper UNITS ...
+//!   marks BYTE ...
+//!
+//! In the short form a store of more than 8 bytes is printed as `tree LENGTH FIRST..LAST CHECKSUM`, its first and last
+//! byte in hex, and a slice of more than 8 places as `lower LENGTH FIRST..LAST CHECKSUM`.
+//!
+//! A line that is none of these ends the list: `line I`, with I counted from 1, is the last line printed.
+
+use crate::cut::Level;
+use crate::evaluation::WorkSlices;
+use crate::hex::{hex_text, parse_hex};
+use crate::levels::{end_text, refusal_line};
+use crate::monitor::{drop_both, hand_in_sheet, hand_in_tree, judge, question, State, Stores};
+use crate::refusal::Refusal;
+use std::fmt::Display;
+
+pub const STORE_FILL: u8 = 0xee;
+pub const LOWER_FILL: u32 = 4_000_000_001;
+pub const UPPER_FILL: u32 = 4_000_000_002;
+pub const MARK_FILL: u8 = 238;
+pub const MOST_PLACES: usize = 65_536;
+/// In the short form a store or a slice of more places than this is printed by its ends.
+pub const MOST_WHOLE: usize = 8;
+
+/// A setting or a call, as a line says it.
+#[derive(Clone, PartialEq, Eq, Debug)]
+pub enum Call {
+    Stores(usize, usize),
+    PokeTree(u32, u8),
+    PokeSheet(u32, u8),
+    Held(State),
+    Tree(Vec<u8>),
+    Sheet(Vec<u8>),
+    Drop,
+    Judge(Level),
+    /// The level and the places of the lower, upper and mark slices.
+    Question(Level, [usize; 3]),
+}
+
+/// How stores and slices are printed: all of them, or a long one by its ends and its checksum.
+#[derive(Clone, Copy, PartialEq, Eq, Debug)]
+pub enum Form {
+    Whole,
+    Short,
+}
+
+/// What a list of calls works on, and how it is printed.
+pub struct Desk {
+    form: Form,
+    state: State,
+    tree_store: Vec<u8>,
+    sheet_store: Vec<u8>,
+}
+
+/// The printed text, and whether every line was understood.
+pub fn run_calls(list: &str) -> (String, bool) {
+    let mut desk = Desk::new(Form::Whole);
+    let mut text = String::new();
+    for (index, line) in list.split_terminator('\n').enumerate() {
+        match parse_call(line).and_then(|call| desk.run(&call)) {
+            Some(answer) => text.push_str(&answer),
+            None => {
+                text.push_str(&format!("line {}\n", index + 1));
+                return (text, false);
+            }
+        }
+    }
+    (text, true)
+}
+
+/// The call that a line says, or nothing where it is not understood.
+pub fn parse_call(line: &str) -> Option<Call> {
+    let words: Vec<&str> = line.split(' ').collect();
+    Some(match *words.as_slice() {
+        ["stores", tree, sheet] => Call::Stores(places(tree)?, places(sheet)?),
+        ["poke", "tree", place, byte] => Call::PokeTree(number(place)?, u8::try_from(number(byte)?).ok()?),
+        ["poke", "sheet", place, byte] => Call::PokeSheet(number(place)?, u8::try_from(number(byte)?).ok()?),
+        ["state", tree, sheet] => {
+            Call::Held(State { tree_length: number(tree)? as usize, sheet_length: number(sheet)? as usize })
+        }
+        ["tree", hex] => Call::Tree(parse_hex(hex)?),
+        ["sheet", hex] => Call::Sheet(parse_hex(hex)?),
+        ["drop"] => Call::Drop,
+        ["judge", k, n] => Call::Judge(Level { k: number(k)?, n: number(n)? }),
+        ["question", k, n, lower, upper, marks] => {
+            Call::Question(Level { k: number(k)?, n: number(n)? }, [places(lower)?, places(upper)?, places(marks)?])
+        }
+        _ => return None,
+    })
+}
+
+impl Desk {
+    pub fn new(form: Form) -> Desk {
+        Desk { form, state: State::default(), tree_store: Vec::new(), sheet_store: Vec::new() }
+    }
+
+    /// The text printed for a call, or nothing where a poke is outside its store.
+    pub fn run(&mut self, call: &Call) -> Option<String> {
+        match call {
+            Call::Stores(tree, sheet) => self.set_stores(*tree, *sheet),
+            Call::PokeTree(place, byte) => poke(&mut self.tree_store, *place, *byte)?,
+            Call::PokeSheet(place, byte) => poke(&mut self.sheet_store, *place, *byte)?,
+            Call::Held(state) => self.state = *state,
+            Call::Tree(file) => return Some(self.call_tree(file)),
+            Call::Sheet(file) => return Some(self.call_sheet(file)),
+            Call::Drop => return Some(self.call_drop()),
+            Call::Judge(level) => return Some(self.call_judge(*level)),
+            Call::Question(level, [lower, upper, marks]) => {
+                return Some(self.call_question(*level, *lower, *upper, *marks));
+            }
+        }
+        Some(String::new())
+    }
+
+    fn set_stores(&mut self, tree: usize, sheet: usize) {
+        self.tree_store.resize(tree, STORE_FILL);
+        self.sheet_store.resize(sheet, STORE_FILL);
+    }
+
+    fn call_tree(&mut self, file: &[u8]) -> String {
+        let (state, outcome) = hand_in_tree(self.state, &mut self.tree_store, file);
+        self.state = state;
+        answer_line(outcome.map(|()| "accepted".to_string())) + &self.after()
+    }
+
+    fn call_sheet(&mut self, file: &[u8]) -> String {
+        let (state, outcome) = hand_in_sheet(self.state, &mut self.sheet_store, file);
+        self.state = state;
+        answer_line(outcome.map(|()| "accepted".to_string())) + &self.after()
+    }
+
+    fn call_drop(&mut self) -> String {
+        self.state = drop_both(self.state);
+        "dropped\n".to_string() + &self.after()
+    }
+
+    fn call_judge(&mut self, level: Level) -> String {
+        let (state, outcome) = judge(self.state, self.stores(), level);
+        self.state = state;
+        answer_line(outcome.map(|counts| format!("nodes {} events {}", counts.nodes, counts.events))) + &self.after()
+    }
+
+    fn call_question(&mut self, level: Level, lower: usize, upper: usize, marks: usize) -> String {
+        let mut lower = vec![LOWER_FILL; lower];
+        let mut upper = vec![UPPER_FILL; upper];
+        let mut marks = vec![MARK_FILL; marks];
+        let work = WorkSlices { lower: &mut lower, upper: &mut upper, marks: &mut marks };
+        let (state, outcome) = question(self.state, self.stores(), level, work);
+        self.state = state;
+        let answer = outcome.map(|answer| {
+            format!("lower {} upper {} events {}", end_text(answer.lower), end_text(answer.upper), answer.events)
+        });
+        let slices =
+            self.slice_line("lower", &lower) + &self.slice_line("upper", &upper) + &self.slice_line("marks", &marks);
+        answer_line(answer) + &self.after() + &slices
+    }
+
+    fn stores(&self) -> Stores<'_> {
+        Stores { tree: &self.tree_store, sheet: &self.sheet_store }
+    }
+
+    fn after(&self) -> String {
+        let State { tree_length, sheet_length } = self.state;
+        let (tree, sheet) = (self.store_text(&self.tree_store), self.store_text(&self.sheet_store));
+        format!("state {tree_length} {sheet_length}\ntree {tree}\nsheet {sheet}\n")
+    }
+
+    fn is_short<T>(&self, places: &[T]) -> bool {
+        self.form == Form::Short && places.len() > MOST_WHOLE
+    }
+
+    fn store_text(&self, store: &[u8]) -> String {
+        if !self.is_short(store) {
+            return hex_text(store);
+        }
+        let (first, last) = (store[0], store[store.len() - 1]);
+        format!("{} {first:02x}..{last:02x} {}", store.len(), checksum(store))
+    }
+
+    fn slice_line<T: Display + Copy + Into<u64>>(&self, name: &str, slice: &[T]) -> String {
+        if self.is_short(slice) {
+            let (first, last) = (slice[0], slice[slice.len() - 1]);
+            return format!("{name} {} {first}..{last} {}\n", slice.len(), checksum(slice));
+        }
+        let mut line = name.to_string();
+        for value in slice {
+            line.push_str(&format!(" {value}"));
+        }
+        line + "\n"
+    }
+}
+
+/// The places as the digits of a number in base 257, the first one highest, modulo the greatest prime below 2^32.
+fn checksum<T: Copy + Into<u64>>(places: &[T]) -> u64 {
+    places.iter().fold(0, |sum, &place| (sum * 257 + place.into()) % 4_294_967_291)
+}
+
+/// Digits alone: no sign, and no leading zero.
+fn number(word: &str) -> Option<u32> {
+    let digits = word.bytes().all(|byte| byte.is_ascii_digit());
+    if !digits || (word.len() > 1 && word.starts_with('0')) {
+        return None;
+    }
+    word.parse().ok()
+}
+
+fn places(word: &str) -> Option<usize> {
+    number(word).map(|value| value as usize).filter(|&value| value <= MOST_PLACES)
+}
+
+fn poke(store: &mut [u8], place: u32, byte: u8) -> Option<()> {
+    *store.get_mut(place as usize)? = byte;
+    Some(())
+}
+
+fn answer_line(outcome: Result<String, Refusal>) -> String {
+    match outcome {
+        Ok(answer) => answer + "\n",
+        Err(refusal) => refusal_line(refusal),
+    }
+}

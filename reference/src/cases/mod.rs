@@ -1,0 +1,74 @@
+//! Generated cases: inputs of the level printer, and lists of calls.
+
+pub mod case;
+pub mod trees;
+pub mod sheets;
+pub mod valid;
+pub mod limits;
+pub mod tree_damage;
+pub mod sheet_damage;
+pub mod pair_damage;
+pub mod damaged;
+pub mod changed;
+pub mod call_lists;
+pub mod vector_list;
+
+use crate::random::Random;
+
+#[derive(Clone, Copy, PartialEq, Eq, Debug)]
+pub enum Kind {
+    /// Answered inputs of moderate size.
+    Valid,
+    /// Inputs at and just past each limit of document 01; the list starts over with other numbers when it ends.
+    Limits,
+    /// One known fault each: every refusal that the printer can give, at every kind of place.
+    Damaged,
+    /// Blind changes: bytes, lengths, swapped fields. Some stay acceptable.
+    Changed,
+    /// The four above in turn, a limit seldom since those are long.
+    Mixed,
+    /// Lists of calls.
+    Calls,
+}
+
+pub const KINDS: [(&str, Kind); 6] = [
+    ("valid", Kind::Valid),
+    ("limits", Kind::Limits),
+    ("damaged", Kind::Damaged),
+    ("changed", Kind::Changed),
+    ("mixed", Kind::Mixed),
+    ("calls", Kind::Calls),
+];
+
+pub fn parse_kind(word: &str) -> Option<Kind> {
+    KINDS.iter().find(|(name, _)| *name == word).map(|&(_, kind)| kind)
+}
+
+/// Case `index` of a seed; it does not depend on how many are written.
+pub fn write_case(kind: Kind, seed: u64, index: u64) -> Vec<u8> {
+    let random = &mut Random::for_case(seed, index);
+    match kind {
+        Kind::Valid => valid::valid_case(random, index).bytes,
+        Kind::Limits => limits::limit_case(random, index).bytes,
+        Kind::Damaged => damaged::damaged_case(random, index).bytes,
+        Kind::Changed => changed::changed_input(random),
+        Kind::Calls => call_lists::call_list(random).into_bytes(),
+        Kind::Mixed => mixed_case(random, index),
+    }
+}
+
+/// Each kind of the turn keeps a count of its own, so that it goes through its whole list.
+fn mixed_case(random: &mut Random, index: u64) -> Vec<u8> {
+    let turn = index / 16;
+    match index % 16 {
+        0 => limits::limit_case(random, turn).bytes,
+        part @ 1..=5 => valid::valid_case(random, 5 * turn + part - 1).bytes,
+        part @ 6..=11 => damaged::damaged_case(random, 6 * turn + part - 6).bytes,
+        _ => changed::changed_input(random),
+    }
+}
+
+pub fn file_name(kind: Kind, index: u64) -> String {
+    let ending = if kind == Kind::Calls { "calls" } else { "input" };
+    format!("{index:06}.{ending}")
+}

@@ -1,0 +1,90 @@
+//! Files written from a description. Nothing is judged: a faulty description gives a faulty file.
+
+use crate::opinion_sheet::{FOUR_NUMBERS, MOST_EXPERTS, OPINIONS};
+use crate::tree_file::{AND, EVENT, OR};
+
+/// A node with the nodes that it links, in link order.
+#[derive(Clone, PartialEq, Eq, Debug)]
+pub enum Node {
+    Event,
+    And(Vec<u16>),
+    Or(Vec<u16>),
+}
+
+#[derive(Clone, PartialEq, Eq, Debug)]
+pub enum Entry {
+    Four([u32; 4]),
+    /// The terms of the experts, 0 for silence; the places after the last are filled with 0.
+    Opinions(Vec<u8>),
+}
+
+pub fn same(units: u32) -> Entry {
+    Entry::Four([units; 4])
+}
+
+impl Node {
+    pub fn inputs(&self) -> &[u16] {
+        match self {
+            Node::Event => &[],
+            Node::And(inputs) | Node::Or(inputs) => inputs,
+        }
+    }
+
+    fn kind(&self) -> u8 {
+        match self {
+            Node::Event => EVENT,
+            Node::And(_) => AND,
+            Node::Or(_) => OR,
+        }
+    }
+}
+
+pub fn tree_bytes(number: u16, nodes: &[Node]) -> Vec<u8> {
+    let mut file = b"FTF".to_vec();
+    for field in [1, number, nodes.len() as u16] {
+        file.extend(field.to_le_bytes());
+    }
+    let (mut events, mut links) = (0u16, 0u16);
+    for node in nodes {
+        let b = node.inputs().len() as u16;
+        let a = if *node == Node::Event { events } else { links };
+        file.push(node.kind());
+        file.extend(a.to_le_bytes());
+        file.extend(b.to_le_bytes());
+        events += (*node == Node::Event) as u16;
+        links += b;
+    }
+    for input in nodes.iter().flat_map(Node::inputs) {
+        file.extend(input.to_le_bytes());
+    }
+    file
+}
+
+/// At most sixteen scores, and at most sixteen terms an entry.
+pub fn sheet_bytes(number: u16, scores: &[u8], entries: &[Entry]) -> Vec<u8> {
+    let mut file = b"FTS".to_vec();
+    for field in [1, number, entries.len() as u16] {
+        file.extend(field.to_le_bytes());
+    }
+    file.push(scores.len() as u8);
+    file.extend(sixteen(scores));
+    for entry in entries {
+        match entry {
+            Entry::Four(numbers) => {
+                file.push(FOUR_NUMBERS);
+                file.extend(numbers.iter().flat_map(|number| number.to_le_bytes()));
+            }
+            Entry::Opinions(terms) => {
+                file.push(OPINIONS);
+                file.extend(sixteen(terms));
+            }
+        }
+    }
+    file
+}
+
+fn sixteen(bytes: &[u8]) -> [u8; MOST_EXPERTS] {
+    let mut filled = [0; MOST_EXPERTS];
+    filled[..bytes.len()].copy_from_slice(bytes);
+    filled
+}

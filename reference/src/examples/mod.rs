@@ -1,0 +1,35 @@
+//! Three systems to run, each as a tree file and an opinion sheet.
+
+pub mod road_trip;
+pub mod container_seal;
+pub mod fuel_supply;
+
+use crate::describe::{sheet_bytes, tree_bytes, Entry, Node};
+
+pub struct Example {
+    pub number: u16,
+    pub nodes: Vec<Node>,
+    pub scores: Vec<u8>,
+    pub entries: Vec<Entry>,
+}
+
+impl Example {
+    pub fn tree(&self) -> Vec<u8> {
+        tree_bytes(self.number, &self.nodes)
+    }
+
+    pub fn sheet(&self) -> Vec<u8> {
+        sheet_bytes(self.number, &self.scores, &self.entries)
+    }
+}
+
+pub const NAMES: [&str; 3] = ["road_trip", "container_seal", "fuel_supply"];
+
+pub fn example(name: &str) -> Option<Example> {
+    match name {
+        "road_trip" => Some(road_trip::road_trip()),
+        "container_seal" => Some(container_seal::container_seal()),
+        "fuel_supply" => Some(fuel_supply::fuel_supply()),
+        _ => None,
+    }
+}

@@ -1,0 +1,23 @@
+//! The ship's risk monitor a second time, written from document 01 alone.
+//! Each module uses only modules listed before it.
+
+pub mod refusal;
+pub mod bytes;
+pub mod end;
+pub mod tree_file;
+pub mod tree_judge;
+pub mod opinion_sheet;
+pub mod mean;
+pub mod sheet_judge;
+pub mod cut;
+pub mod evaluation;
+pub mod monitor;
+pub mod levels;
+pub mod hex;
+pub mod calls;
+pub mod vectors;
+pub mod framing;
+pub mod describe;
+pub mod random;
+pub mod examples;
+pub mod cases;

@@ -1,0 +1,131 @@
+//! The commands; `reference` alone lists them.
+
+use reference::calls::run_calls;
+use reference::cases::vector_list::vector_list;
+use reference::cases::{file_name, parse_kind, write_case, Kind};
+use reference::examples::example;
+use reference::framing::{frame, split_frames};
+use reference::levels::{print_levels, printer_input};
+use reference::vectors::{stream_text, write_stream};
+use std::io::{self, Read, Write};
+use std::path::Path;
+use std::process::ExitCode;
+
+const USAGE: &str = "\
+reference levels < input                       the level printer
+reference calls < list                         a list of calls (src/calls.rs says the format)
+reference each levels|calls < stream           the same for each framed case; the answers are framed alike
+reference vectors stream                       the stored list of calls as bytes (src/vectors.rs says the format)
+reference vectors text < stream                what crates/vectors must print for such bytes
+reference cases SEED COUNT KIND DIR|-          cases as files in DIR, or framed to standard output
+    KIND: valid limits damaged changed mixed calls
+reference example NAME tree|sheet              a file of an example
+reference example NAME input N                 the printer's input for an example with N levels
+    NAME: road_trip container_seal fuel_supply
+";
+
+/// Usage: no such command. Broken: a line of the list is no call, or the stream ends inside a case.
+enum Failure {
+    Usage,
+    Broken,
+    Io(io::Error),
+}
+
+impl From<io::Error> for Failure {
+    fn from(error: io::Error) -> Failure {
+        Failure::Io(error)
+    }
+}
+
+fn main() -> ExitCode {
+    let arguments: Vec<String> = std::env::args_os().skip(1).map(|word| word.to_string_lossy().into_owned()).collect();
+    let words: Vec<&str> = arguments.iter().map(String::as_str).collect();
+    match run(&words) {
+        Ok(()) => ExitCode::SUCCESS,
+        Err(Failure::Broken) => ExitCode::from(1),
+        Err(Failure::Usage) => {
+            let _ = io::stderr().write_all(USAGE.as_bytes());
+            ExitCode::from(2)
+        }
+        Err(Failure::Io(error)) => {
+            let _ = writeln!(io::stderr(), "{error}");
+            ExitCode::from(3)
+        }
+    }
+}
+
+fn run(words: &[&str]) -> Result<(), Failure> {
+    match *words {
+        ["levels"] => Ok(write_out(print_levels(&read_in()?).as_bytes())?),
+        ["calls"] => {
+            let (text, understood) = answer_list(&read_in()?);
+            write_out(text.as_bytes())?;
+            if understood {
+                Ok(())
+            } else {
+                Err(Failure::Broken)
+            }
+        }
+        ["each", "levels"] => answer_each(print_levels),
+        ["each", "calls"] => answer_each(|case| answer_list(case).0),
+        ["vectors", "stream"] => Ok(write_out(&write_stream(&vector_list()))?),
+        ["vectors", "text"] => {
+            let text = stream_text(&read_in()?).ok_or(Failure::Broken)?;
+            Ok(write_out(text.as_bytes())?)
+        }
+        ["cases", seed, count, kind, target] => {
+            let seed = seed.parse().map_err(|_| Failure::Usage)?;
+            let count = count.parse().map_err(|_| Failure::Usage)?;
+            write_cases(seed, count, parse_kind(kind).ok_or(Failure::Usage)?, target)
+        }
+        ["example", name, "tree"] => Ok(write_out(&example(name).ok_or(Failure::Usage)?.tree())?),
+        ["example", name, "sheet"] => Ok(write_out(&example(name).ok_or(Failure::Usage)?.sheet())?),
+        ["example", name, "input", n] => {
+            let example = example(name).ok_or(Failure::Usage)?;
+            let n = n.parse().map_err(|_| Failure::Usage)?;
+            Ok(write_out(&printer_input(n, &example.tree(), &example.sheet()))?)
+        }
+        _ => Err(Failure::Usage),
+    }
+}
+
+/// Bytes that are no text become signs that no line of a list has.
+fn answer_list(list: &[u8]) -> (String, bool) {
+    run_calls(&String::from_utf8_lossy(list))
+}
+
+fn answer_each(answer: impl Fn(&[u8]) -> String) -> Result<(), Failure> {
+    let stream = read_in()?;
+    let mut out = io::BufWriter::new(io::stdout().lock());
+    for case in split_frames(&stream).ok_or(Failure::Broken)? {
+        out.write_all(&frame(answer(case).as_bytes()))?;
+    }
+    Ok(out.flush()?)
+}
+
+fn write_cases(seed: u64, count: u64, kind: Kind, target: &str) -> Result<(), Failure> {
+    if target == "-" {
+        let mut out = io::BufWriter::new(io::stdout().lock());
+        for index in 0..count {
+            out.write_all(&frame(&write_case(kind, seed, index)))?;
+        }
+        return Ok(out.flush()?);
+    }
+    std::fs::create_dir_all(target)?;
+    for index in 0..count {
+        std::fs::write(Path::new(target).join(file_name(kind, index)), write_case(kind, seed, index))?;
+    }
+    Ok(())
+}
+
+fn read_in() -> io::Result<Vec<u8>> {
+    let mut input = Vec::new();
+    io::stdin().lock().read_to_end(&mut input)?;
+    Ok(input)
+}
+
+fn write_out(bytes: &[u8]) -> io::Result<()> {
+    let mut out = io::stdout().lock();
+    out.write_all(bytes)?;
+    out.flush()
+}

@@ -1,0 +1,42 @@
+//! The four numbers of an entry as fractions of a unit: as given, or the mean of the opinions weighted by score.
+
+use crate::end::U;
+use crate::opinion_sheet::Entry;
+
+/// a, b = c and d of each term in hundredths of 1 (source 000, table 5); term code 1 stands first.
+pub const TERMS: [[u32; 3]; 7] =
+    [[0, 4, 8], [7, 13, 19], [17, 27, 37], [35, 50, 65], [62, 73, 82], [81, 87, 93], [92, 96, 100]];
+
+/// Units in a hundredth of 1.
+const HUNDREDTH: u128 = U as u128 / 100;
+
+/// a, b, c and d in units, each over the one denominator.
+#[derive(Clone, Copy, PartialEq, Eq, Debug)]
+pub struct Four {
+    pub numerators: [u128; 4],
+    pub denominator: u128,
+}
+
+pub fn four_numbers(entry: &Entry) -> Four {
+    match entry {
+        Entry::Four(numbers) => Four { numerators: numbers.map(u128::from), denominator: 1 },
+        Entry::Opinions { scores, terms } => weighted_mean(scores, terms),
+    }
+}
+
+/// The denominator is the total score of those who spoke: above 0 in an accepted sheet.
+fn weighted_mean(scores: &[u8], terms: &[u8]) -> Four {
+    let mut numerators = [0; 4];
+    let mut denominator = 0;
+    for (&score, &term) in scores.iter().zip(terms) {
+        if term == 0 {
+            continue;
+        }
+        let [a, b, d] = TERMS[term as usize - 1];
+        for (numerator, hundredths) in numerators.iter_mut().zip([a, b, b, d]) {
+            *numerator += score as u128 * hundredths as u128 * HUNDREDTH;
+        }
+        denominator += score as u128;
+    }
+    Four { numerators, denominator }
+}

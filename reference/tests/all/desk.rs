@@ -1,0 +1,119 @@
+//! A monitor with its lent memory, which sees to it that a refusal changes nothing.
+
+use reference::cut::Level;
+use reference::describe::{sheet_bytes, tree_bytes, Entry, Node};
+use reference::end::End;
+use reference::evaluation::WorkSlices;
+use reference::monitor::{drop_both, hand_in_sheet, hand_in_tree, judge, question, Answer, Counts, State, Stores};
+use reference::refusal::{refused, Refusal};
+
+pub const FILL: u8 = 0xa5;
+
+#[derive(Clone, PartialEq, Eq, Debug)]
+pub struct Desk {
+    pub state: State,
+    pub tree_store: Vec<u8>,
+    pub sheet_store: Vec<u8>,
+}
+
+/// Work slices after a question.
+#[derive(Clone, PartialEq, Eq, Debug)]
+pub struct Work {
+    pub lower: Vec<u32>,
+    pub upper: Vec<u32>,
+    pub marks: Vec<u8>,
+}
+
+pub fn fresh_work(lower: usize, upper: usize, marks: usize) -> Work {
+    Work { lower: vec![0xdddd_0001; lower], upper: vec![0xdddd_0002; upper], marks: vec![FILL; marks] }
+}
+
+impl Desk {
+    pub fn new(tree_store: usize, sheet_store: usize) -> Desk {
+        Desk { state: State::default(), tree_store: vec![FILL; tree_store], sheet_store: vec![FILL; sheet_store] }
+    }
+
+    /// Stores for the longest files.
+    pub fn roomy() -> Desk {
+        Desk::new(7_175, 17_434)
+    }
+
+    pub fn tree(&mut self, file: &[u8]) -> Result<(), Refusal> {
+        let before = self.clone();
+        let (state, outcome) = hand_in_tree(self.state, &mut self.tree_store, file);
+        self.state = state;
+        if outcome.is_err() {
+            assert_eq!(*self, before);
+        } else {
+            assert_eq!(self.state, State { tree_length: file.len(), ..before.state });
+            assert_eq!(self.tree_store[..file.len()], *file);
+            assert_eq!(self.tree_store[file.len()..], before.tree_store[file.len()..]);
+        }
+        outcome
+    }
+
+    pub fn sheet(&mut self, file: &[u8]) -> Result<(), Refusal> {
+        let before = self.clone();
+        let (state, outcome) = hand_in_sheet(self.state, &mut self.sheet_store, file);
+        self.state = state;
+        if outcome.is_err() {
+            assert_eq!(*self, before);
+        } else {
+            assert_eq!(self.state, State { sheet_length: file.len(), ..before.state });
+            assert_eq!(self.sheet_store[..file.len()], *file);
+            assert_eq!(self.sheet_store[file.len()..], before.sheet_store[file.len()..]);
+        }
+        outcome
+    }
+
+    pub fn drop_both(&mut self) {
+        self.state = drop_both(self.state);
+    }
+
+    fn stores(&self) -> Stores<'_> {
+        Stores { tree: &self.tree_store, sheet: &self.sheet_store }
+    }
+
+    pub fn judge(&self, k: u32, n: u32) -> Result<Counts, Refusal> {
+        let (state, outcome) = judge(self.state, self.stores(), Level { k, n });
+        assert_eq!(state, self.state);
+        outcome
+    }
+
+    pub fn question(&self, k: u32, n: u32, work: &mut Work) -> Result<Answer, Refusal> {
+        let before = work.clone();
+        let Work { lower, upper, marks } = work;
+        let slices = WorkSlices { lower, upper, marks };
+        let (state, outcome) = question(self.state, self.stores(), Level { k, n }, slices);
+        assert_eq!(state, self.state);
+        if outcome.is_err() {
+            assert_eq!(*work, before);
+        }
+        outcome
+    }
+
+    /// A question with slices of 1,024 places.
+    pub fn answer(&self, k: u32, n: u32) -> Result<Answer, Refusal> {
+        self.question(k, n, &mut fresh_work(1_024, 1_024, 1_024))
+    }
+}
+
+pub fn refusal<T>(number: u32, place: usize) -> Result<T, Refusal> {
+    Err(refused(number, place))
+}
+
+/// A desk that holds both files.
+pub fn holding(nodes: &[Node], scores: &[u8], entries: &[Entry]) -> Desk {
+    let mut desk = Desk::roomy();
+    assert_eq!(desk.tree(&tree_bytes(7, nodes)), Ok(()));
+    assert_eq!(desk.sheet(&sheet_bytes(7, scores, entries)), Ok(()));
+    desk
+}
+
+pub fn exact(units: u32) -> End {
+    End { units, exact: true }
+}
+
+pub fn unmarked(units: u32) -> End {
+    End { units, exact: false }
+}

@@ -1,0 +1,116 @@
+//! Generated cases: known outcomes are met, every refusal occurs, and nothing fails.
+
+use reference::calls::run_calls;
+use reference::cases::case::{Case, Outcome};
+use reference::cases::damaged::{damaged_case, DAMAGES};
+use reference::cases::limits::{limit_case, LIMITS};
+use reference::cases::valid::valid_case;
+use reference::cases::{write_case, Kind, KINDS};
+use reference::framing::{frame, split_frames};
+use reference::levels::print_levels;
+use reference::random::Random;
+use std::collections::BTreeSet;
+
+fn check(case: &Case, index: u64) {
+    let text = print_levels(&case.bytes);
+    let met = match case.outcome {
+        Outcome::Input => text == "input\n",
+        Outcome::Refused(number, place) => text == format!("refused {number} at {place}\n"),
+        Outcome::Answered => text.starts_with("tree "),
+    };
+    assert!(met, "case {index} is {text:?} and not {:?}", case.outcome);
+}
+
+#[test]
+fn valid_cases_are_answered() {
+    for index in 0..300 {
+        check(&valid_case(&mut Random::for_case(3, index), index), index);
+    }
+}
+
+#[test]
+fn limit_cases_meet_their_outcome() {
+    for index in 0..LIMITS.len() as u64 {
+        check(&limit_case(&mut Random::for_case(5, index), index), index);
+    }
+}
+
+#[test]
+fn damaged_cases_meet_their_outcome() {
+    for index in 0..40 * DAMAGES as u64 {
+        check(&damaged_case(&mut Random::for_case(7, index), index), index);
+    }
+}
+
+/// The numbers of all refusals in a text.
+fn refusals(text: &str) -> BTreeSet<u32> {
+    let lines = text.lines().filter_map(|line| line.strip_prefix("refused "));
+    lines.map(|rest| rest.split(' ').next().unwrap().parse().unwrap()).collect()
+}
+
+#[test]
+fn damaged_cases_have_every_refusal_of_the_printer() {
+    let mut seen = BTreeSet::new();
+    for index in 0..DAMAGES as u64 {
+        seen.extend(refusals(&print_levels(&write_case(Kind::Damaged, 11, index))));
+    }
+    assert_eq!(seen, BTreeSet::from([1, 2, 3, 4, 5, 6, 7, 8, 9, 10, 11, 12, 13, 24]));
+}
+
+#[test]
+fn call_lists_have_every_refusal() {
+    let mut seen = BTreeSet::new();
+    for index in 0..1_500 {
+        let list = String::from_utf8(write_case(Kind::Calls, 13, index)).unwrap();
+        let (text, understood) = run_calls(&list);
+        assert!(understood, "{list}");
+        seen.extend(refusals(&text));
+    }
+    assert_eq!(seen, (1..=13).chain(20..=25).collect());
+}
+
+#[test]
+fn changed_cases_are_answered_or_refused() {
+    let (mut answered, mut refused) = (0, 0);
+    for index in 0..3_000 {
+        let text = print_levels(&write_case(Kind::Changed, 17, index));
+        answered += text.starts_with("tree ") as u32;
+        refused += text.starts_with("refused ") as u32;
+    }
+    assert!(answered > 300 && refused > 300);
+}
+
+/// Every single byte of a small input set to some values.
+#[test]
+fn single_bytes() {
+    let input = write_case(Kind::Valid, 19, 5);
+    for place in 0..input.len() {
+        for byte in [0, 1, 2, 3, 7, 8, 16, 17, 100, 101, 127, 128, 255] {
+            let mut changed = input.clone();
+            changed[place] = byte;
+            assert!(print_levels(&changed).ends_with('\n'));
+        }
+    }
+}
+
+#[test]
+fn bytes_of_no_meaning() {
+    for index in 0..500 {
+        let random = &mut Random::for_case(23, index);
+        let bytes: Vec<u8> = (0..random.below(200)).map(|_| random.below(256) as u8).collect();
+        assert!(print_levels(&bytes).ends_with('\n'));
+        run_calls(&String::from_utf8_lossy(&bytes));
+    }
+}
+
+#[test]
+fn cases_repeat_and_frames_split() {
+    for (_, kind) in KINDS {
+        let cases: Vec<Vec<u8>> = (0..20).map(|index| write_case(kind, 29, index)).collect();
+        let again: Vec<Vec<u8>> = (0..20).rev().map(|index| write_case(kind, 29, index)).collect();
+        assert!(cases.iter().eq(again.iter().rev()));
+        let stream: Vec<u8> = cases.iter().flat_map(|case| frame(case)).collect();
+        assert!(split_frames(&stream).unwrap().iter().eq(cases.iter()));
+        assert!(split_frames(&stream[..stream.len() - 1]).is_none());
+    }
+}

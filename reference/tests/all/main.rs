@@ -1,0 +1,19 @@
+//! The second opinion's own tests.
+
+mod desk;
+mod whole;
+mod exact;
+mod table;
+mod terms;
+mod tree_refusals;
+mod sheet_refusals;
+mod call_refusals;
+mod calls_answered;
+mod limits;
+mod cut_sets;
+mod enclosure;
+mod printer;
+mod call_text;
+mod vectors;
+mod generated;
+mod examples;

@@ -1,0 +1,89 @@
+//! The stored list of calls, as bytes and as text.
+
+use reference::calls::{Call, Desk, Form};
+use reference::cases::vector_list::vector_list;
+use reference::cut::Level;
+use reference::describe::{same, sheet_bytes, tree_bytes, Node};
+use reference::monitor::State;
+use reference::vectors::{read_stream, stream_text, write_stream};
+
+fn every_kind() -> Vec<Call> {
+    vec![
+        Call::Stores(16, 43),
+        Call::PokeTree(15, 7),
+        Call::PokeSheet(42, 8),
+        Call::Tree(tree_bytes(7, &[Node::Event])),
+        Call::Sheet(sheet_bytes(7, &[], &[same(5)])),
+        Call::Judge(Level { k: 1, n: 2 }),
+        Call::Question(Level { k: 1, n: 2 }, [1, 8, 17]),
+        Call::Held(State { tree_length: 3, sheet_length: 4 }),
+        Call::Drop,
+    ]
+}
+
+#[test]
+fn bytes_and_back() {
+    let calls = every_kind();
+    assert_eq!(read_stream(&write_stream(&calls)), Some(calls));
+    let list = vector_list();
+    assert_eq!(read_stream(&write_stream(&list)), Some(list));
+}
+
+#[test]
+fn short_text() {
+    let (tree, sheet) = (tree_bytes(7, &[Node::Event]), sheet_bytes(7, &[], &[same(5)]));
+    let tree = format!("tree 16 46..07 {}\n", sum(&[tree, vec![0xee, 7]].concat()));
+    let filled = [vec![0xee; 42], vec![8]].concat();
+    let before = format!("sheet 43 ee..08 {}\n", sum(&filled));
+    let held = format!("sheet 43 46..00 {}\n", sum(&sheet));
+    let marks = [vec![3], vec![238; 16]].concat();
+    let expected = [
+        format!("accepted\nstate 14 0\n{tree}{before}"),
+        format!("accepted\nstate 14 43\n{tree}{held}"),
+        format!("nodes 1 events 1\nstate 14 43\n{tree}{held}"),
+        format!("lower 5 = upper 5 = events 1\nstate 14 43\n{tree}{held}"),
+        format!("lower 5\nupper 5{}\n", " 4000000002".repeat(7)),
+        format!("marks 17 3..238 {}\n", sum(&marks)),
+        format!("dropped\nstate 0 0\n{tree}{held}"),
+    ];
+    assert_eq!(stream_text(&write_stream(&every_kind())), Some(expected.concat()));
+}
+
+/// The checksum by its definition: digits in base 257, modulo a prime.
+fn sum(bytes: &[u8]) -> u64 {
+    let prime = 4_294_967_291;
+    let mut power = 1;
+    let mut total = 0;
+    for &byte in bytes.iter().rev() {
+        total = (total + power * byte as u64) % prime;
+        power = power * 257 % prime;
+    }
+    total
+}
+
+#[test]
+fn streams_that_are_none() {
+    let stream = write_stream(&every_kind());
+    assert_eq!(stream_text(&stream[..stream.len() - 1]), None);
+    for calls in [
+        vec![Call::Stores(7_201, 0)],
+        vec![Call::Stores(0, 17_501)],
+        vec![Call::PokeTree(0, 0)],
+        vec![Call::Question(Level { k: 1, n: 2 }, [0, 0, 1_101])],
+    ] {
+        assert_eq!(stream_text(&write_stream(&calls)), None, "{calls:?}");
+    }
+}
+
+/// Each refusal of document 01 is met, and so is every kind of answer.
+#[test]
+fn every_answer() {
+    let mut desk = Desk::new(Form::Short);
+    let text: String = vector_list().iter().map(|call| desk.run(call).unwrap()).collect();
+    for number in (1..=13).chain(20..=25) {
+        assert!(text.contains(&format!("refused {number} at ")), "{number}");
+    }
+    for answer in ["\naccepted\n", "\ndropped\n", "\nnodes 5 events 3\n", "\nrefused 23 at 1\n"] {
+        assert!(text.contains(answer), "{answer:?}");
+    }
+}
