@@ -7,7 +7,8 @@ use Rattle.vectors.proofs.run.run.Tie as tie
 
 abbrev Inv-loop : tie.InvT-loop
 Inv-loop tree₀ sheet₀ file₀ lower₀ upper₀ marks₀ desk₀ left₀ tree sheet file lower upper marks desk left =
-    (length tree ≡ length tree₀) × (length sheet ≡ length sheet₀) × (length file ≡ length file₀) × (length lower ≡ length lower₀) × (length upper ≡ length upper₀) × (length marks ≡ length marks₀)
+    (length tree ≡ length tree₀) × (length sheet ≡ length sheet₀) × (length file ≡ length file₀)
+    × (length lower ≡ length lower₀) × (length upper ≡ length upper₀) × (length marks ≡ length marks₀)
 
 abbrev μ-loop : tie.MeasureT-loop
 μ-loop tree₀ sheet₀ file₀ lower₀ upper₀ marks₀ desk₀ left₀ tree sheet file lower upper marks desk left =
