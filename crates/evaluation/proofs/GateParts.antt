@@ -11,11 +11,11 @@ use Rattle.tree_file.specs.Tallies.{input-count}
 use Rattle.tree_file.specs.Clauses.{Is16}
 use Rattle.tree_file.proofs.Parts.{part-from}
 use Rattle.evaluation.specs.Ends.{as-code}
-use Rattle.evaluation.specs.Stored.{Inputs-stored, fold-end, part-of, Gate-stored, gate-enclosure-by}
+use Rattle.evaluation.specs.Stored.{Inputs-stored, fold-end, part-of, Gate-stored, joined}
 use Rattle.evaluation.specs.declared.step.End.{End}
 
-module _ (tree : List ℕ) (nodes i kind′ : ℕ) (lower upper marks : List ℕ)
-    (s : Gate-stored tree nodes i kind′ lower upper marks) (first : ℕ) (f : Is16 first (field-a tree i)) (inputs : ℕ)
+module _ {tree : List ℕ} {nodes i kind′ : ℕ} {lower upper marks : List ℕ}
+    (s : Gate-stored tree nodes i kind′ lower upper marks) {first : ℕ} (f : Is16 first (field-a tree i)) {inputs : ℕ}
     (c : Is16 inputs (input-count tree i)) where
   -- where the part begins
   abbrev start : ℕ
@@ -33,17 +33,20 @@ module _ (tree : List ℕ) (nodes i kind′ : ℕ) (lower upper marks : List ℕ
   lent-is : lent ≡ part-of tree i
   lent-is = part-from tree start ∙ ap (λ (a : ℕ). drop a tree) start-is
 
+  -- its inputs are as many as its record says
   inputs-is : inputs ≡ field-b tree i
   inputs-is = c .value ∙ s .inputs-are
 
+  -- what the fold asks for the lower end
   pub lower-asked : Inputs-stored lent inputs lower marks
   lower-asked = rw (lent-is, inputs-is) (s .lower-stored)
 
+  -- and for the upper end
   pub upper-asked : Inputs-stored lent inputs upper marks
   upper-asked = rw (lent-is, inputs-is) (s .upper-stored)
 
   -- both ends, as the fold answers them
-  pub enclosure-made : (low high : End)
+  pub enclosure-made : {low high : End}
       → low ≡ as-code (fold-end (eqb kind′ 2) Bool.false lent lower marks inputs)
       → high ≡ as-code (fold-end (eqb kind′ 2) Bool.true lent upper marks inputs)
       → record {
@@ -51,8 +54,8 @@ module _ (tree : List ℕ) (nodes i kind′ : ℕ) (lower upper marks : List ℕ
         «lower_exact» = low .exact;
         upper = high .value;
         «upper_exact» = high .exact;
-      } ≡ gate-enclosure-by tree i lower upper marks
-  enclosure-made low high l h =
+      } ≡ joined tree i lower upper marks
+  enclosure-made l h =
       ap₂ (λ (a b : End). record {
         lower = a .value;
         «lower_exact» = a .exact;

@@ -26,7 +26,7 @@ seen-any any? h x = ap (λ (b : Bool). seen-as b x) (sym h)
 pub seen-all : (any? : Bool) → any? ≡ false → (x : End) → x ≡ seen-as any? x
 seen-all any? h x = ap (λ (b : Bool). seen-as b x) (sym h)
 
--- the direction of the fold
+-- an OR's fold rounds the other way
 pub up-any : (any? upper : Bool) → any? ≡ true → direction (not upper) ≡ turned (kind-as any?) (direction upper)
 up-any any? upper h = go upper ∙ ap (λ (b : Bool). turned (kind-as b) (direction upper)) (sym h)
   where
@@ -34,12 +34,13 @@ up-any any? upper h = go upper ∙ ap (λ (b : Bool). turned (kind-as b) (direct
     go true = refl
     go false = refl
 
+-- an AND's fold rounds as asked
 pub up-all : (any? upper : Bool) → any? ≡ false → direction upper ≡ turned (kind-as any?) (direction upper)
 up-all any? upper h = ap (λ (b : Bool). turned (kind-as b) (direction upper)) (sym h)
 
 -- what the reader of a stored end asks of the node that link j names
-pub node-stored : (links values marks : List ℕ) (inputs : ℕ) → Inputs-stored links inputs values marks → (j : ℕ) → j < inputs
-    → (node : ℕ) → Is16 node (field16 links (2 * j))
+pub node-stored : (links values marks : List ℕ) (inputs : ℕ) → Inputs-stored links inputs values marks → (j : ℕ)
+    → j < inputs → (node : ℕ) → Is16 node (field16 links (2 * j))
     → (node < length values) × (node < length marks) × (getD values node 0 ≤ billion)
 node-stored links values marks inputs s j l node n =
     rw (n .value) (s .has-value j l, s .has-mark j l, s .in-units j l)
@@ -49,10 +50,18 @@ module _ (any? upper : Bool) (links values marks : List ℕ) (inputs : ℕ) wher
   abbrev input : ℕ → Theory-end
   input j = seen (kind-as any?) billion (stored-end upper values marks (linked links j))
 
+  -- the direction of the fold
+  abbrev way : Direction
+  way = turned (kind-as any?) (direction upper)
+
+  -- the fold of the first j inputs
+  abbrev after-inputs : ℕ → Theory-end
+  after-inputs j = folded billion way input 0 j
+
   -- the running end after j inputs
   pub record Running (running : End) (j : ℕ) : Type 0 where
     pub within : j ≤ inputs
-    pub value-is : running ≡ as-code (folded billion (turned (kind-as any?) (direction upper)) input 0 j)
+    pub value-is : running ≡ as-code (after-inputs j)
     pub in-units : InUnits running
 
   -- the fold begins with U, exact
@@ -61,14 +70,13 @@ module _ (any? upper : Bool) (links values marks : List ℕ) (inputs : ℕ) wher
   running-start = record { within = omega arith; value-is = refl; in-units = record { at-most = le-refl billion } }
 
   -- the fold with one input more
-  fold-next : (j : ℕ)
-      → as-code (step billion (turned (kind-as any?) (direction upper)) (folded billion (turned (kind-as any?) (direction upper)) input 0 j) (input j))
-      ≡ as-code (folded billion (turned (kind-as any?) (direction upper)) input 0 (j + 1))
-  fold-next j = rw add-one (ap (λ (m : ℕ). as-code (step billion (turned (kind-as any?) (direction upper)) (folded billion (turned (kind-as any?) (direction upper)) input 0 j) (input m))) (sym (zero-add j)))
+  fold-next : (j : ℕ) → as-code (step billion way (after-inputs j) (input j)) ≡ as-code (after-inputs (j + 1))
+  fold-next j =
+      rw add-one (ap (λ (m : ℕ). as-code (step billion way (after-inputs j) (input m))) (sym (zero-add j)))
 
   -- one input more
-  pub running-next : (upward : Bool) → direction upward ≡ turned (kind-as any?) (direction upper) → (running : End) (j : ℕ)
-      → Running running j → j < inputs → (node : ℕ) → Is16 node (field16 links (2 * j)) → (x : End)
+  pub running-next : (upward : Bool) → direction upward ≡ turned (kind-as any?) (direction upper) → (running : End)
+      (j : ℕ) → Running running j → j < inputs → (node : ℕ) → Is16 node (field16 links (2 * j)) → (x : End)
       → x ≡ as-code (stored-end upper values marks node) → (factor : End) → factor ≡ seen-as any? x → (after : End)
       → (after ≡ stepped upward running factor) × InUnits after → Running after (j + 1)
   running-next upward up running j r l node n x e factor f after s = record {
@@ -77,7 +85,7 @@ module _ (any? upper : Bool) (links values marks : List ℕ) (inputs : ℕ) wher
         s .0
         ∙ ap₂ (λ (d : Direction) (k : End). as-code (step billion d (as-theory running) (as-theory k))) up
         (f ∙ ap (seen-as any?) (e ∙ ap (λ (m : ℕ). as-code (stored-end upper values marks m)) (n .value)))
-        ∙ ap (λ (k : End). as-code (step billion (turned (kind-as any?) (direction upper)) (as-theory k) (input j))) (r .value-is)
+        ∙ ap (λ (k : End). as-code (step billion way (as-theory k) (input j))) (r .value-is)
         ∙ fold-next j;
     in-units = s .1;
   }
@@ -89,6 +97,6 @@ module _ (any? upper : Bool) (links values marks : List ℕ) (inputs : ℕ) wher
   fold-answer running j r l answer s =
       let all-inputs : j ≡ inputs = omega arith in (
         s .0 ∙ ap (seen-as any?) (r .value-is)
-            ∙ ap (λ (m : ℕ). as-code (seen (kind-as any?) billion (folded billion (turned (kind-as any?) (direction upper)) input 0 m))) all-inputs,
+            ∙ ap (λ (m : ℕ). as-code (seen (kind-as any?) billion (after-inputs m))) all-inputs,
         s .1,
       )

@@ -1,5 +1,5 @@
--- A node's ends by what is stored of the nodes before it: a basic event's are those of its cut, a gate's the fold of its
--- inputs' stored ends.
+-- A node's ends by what is stored of the nodes before it: a basic event's are those of its cut, a gate's the fold of
+-- its inputs' stored ends.
 -- Assumes nothing.
 use Prim.Native.Nat.{ℕ, zero, suc, _+_, _-_, _*_, _≤_, _<_}
 use mathlib.Core.Path.{_≡_, refl, sym, ap, ap₂, _∙_}
@@ -36,11 +36,11 @@ use Rattle.opinion_sheet.specs.declared.cut.Enclosure.{Enclosure}
 use Rattle.opinion_sheet.proofs.Accepted.{event-rising}
 use Rattle.evaluation.specs.Ends.{direction}
 use Rattle.evaluation.specs.Stored.{marked, stored-end, kind-as, linked, Inputs-stored, fold-end, Gate-stored}
-use Rattle.evaluation.specs.Stored.{gate-enclosure-by}
+use Rattle.evaluation.specs.Stored.{joined}
 use Rattle.evaluation.specs.Report.{event-cut, node-end, node-enclosure, mark-byte}
-use Rattle.evaluation.specs.Requirements.{Pair, Stored-before}
+use Rattle.evaluation.specs.Requirements.{Pair, Stored-before, Node-asked}
 
--- the marks are read off a mark byte as they were put in
+-- the lower end's mark is read off a mark byte as it was put in
 pub marked-lower : (l u : End) → marked false (mark-byte l u) ≡ l .exact
 marked-lower l u = go (l .exact) (u .exact)
   where
@@ -50,6 +50,7 @@ marked-lower l u = go (l .exact) (u .exact)
     go false true = refl
     go false false = refl
 
+-- so is the upper end's
 pub marked-upper : (l u : End) → marked true (mark-byte l u) ≡ u .exact
 marked-upper l u = go (l .exact) (u .exact)
   where
@@ -84,7 +85,8 @@ module _ (tree sheet : List ℕ) (k n : ℕ) (pair : Pair tree sheet k n) where
   pub node-in-units : (w : Direction) (i : ℕ) → i < node-count tree → node-end w tree sheet k n i .value ≤ billion
   unfolding node-end
   node-in-units w i l =
-      node-at-most (table-of tree) (λ i. i) (ranked-by-number (table-of tree) (table-links-below tree (pair .tree-good)))
+      node-at-most (table-of tree) (λ i. i)
+      (ranked-by-number (table-of tree) (table-links-below tree (pair .tree-good)))
       (table-numbered tree (pair .tree-good)) (table-linked-once tree (pair .tree-good)) (event-cut sheet k n)
       (λ e h. cuts-ordered e (rw (pair .same-events, ← table-events tree (pair .tree-good)) h)) billion (lit< tt) w i l
 
@@ -109,7 +111,8 @@ module _ (tree sheet : List ℕ) (k n : ℕ) (pair : Pair tree sheet k n) where
   event-end w i l z =
       sym
       (by-earlier w i l (node-end w tree sheet k n) (λ m h. refl)
-      ∙ ap (λ (b : Bool). end-by-node billion w (λ e. end-of w (event-cut sheet k n e)) (node-end w tree sheet k n) (link tree)
+      ∙ ap (λ (b : Bool). end-by-node billion w (λ e. end-of w (event-cut sheet k n e)) (node-end w tree sheet k n)
+      (link tree)
       (cond b (event (field-a tree i)) (joint (gate-kind (kind tree i)) (field-a tree i) (field-b tree i - 1))))
       (eq-eqb (kind tree i) 0 z))
 
@@ -121,11 +124,13 @@ module _ (tree sheet : List ℕ) (k n : ℕ) (pair : Pair tree sheet k n) where
     -- a gate's end is the fold of its inputs' stored ends
     pub gate-end-is : (upper : Bool) (values marks : List ℕ)
         → ((m : ℕ) → m < i → stored-end upper values marks m ≡ node-end (direction upper) tree sheet k n m)
-        → fold-end (eqb (kind tree i) 2) upper part values marks (field-b tree i) ≡ node-end (direction upper) tree sheet k n i
+        → fold-end (eqb (kind tree i) 2) upper part values marks (field-b tree i)
+        ≡ node-end (direction upper) tree sheet k n i
     unfolding node-of
     gate-end-is upper values marks h =
         let store = stored-end upper values marks in
         let w = direction upper in
+        let as-seen : GateKind → ℕ → End = λ g j. seen g billion (store (link tree j)) in
         let least : 1 ≤ field-b tree i = pair .tree-good .gate-least i l gate in
         let inputs : suc (field-b tree i - 1) ≡ field-b tree i = omega arith in
         sym
@@ -133,11 +138,12 @@ module _ (tree sheet : List ℕ) (k n : ℕ) (pair : Pair tree sheet k n) where
         ∙ ap (λ (b : Bool). end-by-node billion w (λ e. end-of w (event-cut sheet k n e)) store (link tree)
         (cond b (event (field-a tree i)) (joint (gate-kind (kind tree i)) (field-a tree i) (field-b tree i - 1))))
         (ne-eqb (kind tree i) 0 (λ z. omega arith))
-        ∙ ap (λ (g : GateKind). seen g billion (folded billion (turned g w) (λ j. seen g billion (store (link tree j))) (field-a tree i) (suc (field-b tree i - 1))))
+        ∙ ap (λ (g : GateKind). seen g billion
+        (folded billion (turned g w) (as-seen g) (field-a tree i) (suc (field-b tree i - 1))))
         (gate-kind-as (kind tree i) gate (pair .tree-good .kinds i l))
-        ∙ ap (λ (m : ℕ). seen g billion (folded billion (turned g w) (λ j. seen g billion (store (link tree j))) (field-a tree i) m)) inputs
+        ∙ ap (λ (m : ℕ). seen g billion (folded billion (turned g w) (as-seen g) (field-a tree i) m)) inputs
         ∙ ap (seen g billion)
-        (sym (fold-shift billion (turned g w) (λ j. seen g billion (store (linked part j))) (λ j. seen g billion (store (link tree j)))
+        (sym (fold-shift billion (turned g w) (λ j. seen g billion (store (linked part j))) (as-seen g)
         (field-a tree i) (field-b tree i)
         (λ j m. ap (λ (x : ℕ). seen g billion (store x)) (link-in-part tree (field-a tree i) j)))))
       where
@@ -168,89 +174,103 @@ module _ (tree sheet : List ℕ) (k n : ℕ) (pair : Pair tree sheet k n) where
     }
 
   module _ (i : ℕ) (lower upper marks : List ℕ) (s : Stored-before tree sheet k n i lower upper marks) where
-    -- a stored end is the node's end
+    -- a stored lower end is the node's
     pub stored-lower : (m : ℕ) → m < i → stored-end false lower marks m ≡ node-end down tree sheet k n m
     stored-lower m l =
         ap₂ (λ (v : ℕ) (b : Bool). record { value = v; exact = b }) (s .lower-at m l)
-        (ap (marked false) (s .marks-at m l) ∙ marked-lower (node-end down tree sheet k n m) (node-end up tree sheet k n m))
+        (ap (marked false) (s .marks-at m l)
+        ∙ marked-lower (node-end down tree sheet k n m) (node-end up tree sheet k n m))
 
+    -- and a stored upper end
     pub stored-upper : (m : ℕ) → m < i → stored-end true upper marks m ≡ node-end up tree sheet k n m
     stored-upper m l =
         ap₂ (λ (v : ℕ) (b : Bool). record { value = v; exact = b }) (s .upper-at m l)
-        (ap (marked true) (s .marks-at m l) ∙ marked-upper (node-end down tree sheet k n m) (node-end up tree sheet k n m))
+        (ap (marked true) (s .marks-at m l)
+        ∙ marked-upper (node-end down tree sheet k n m) (node-end up tree sheet k n m))
 
-    -- and at most U
+    -- a stored lower end is at most U
     pub lower-in-units : i ≤ node-count tree → (m : ℕ) → m < i → getD lower m 0 ≤ billion
     lower-in-units le m l = rw (s .lower-at m l) (node-in-units down m (lt-of-lt-of-le l le))
 
+    -- and a stored upper end
     pub upper-in-units : i ≤ node-count tree → (m : ℕ) → m < i → getD upper m 0 ≤ billion
     upper-in-units le m l = rw (s .upper-at m l) (node-in-units up m (lt-of-lt-of-le l le))
 
-  module _ (nodes i : ℕ) (count : nodes ≡ node-count tree) (inside : i < nodes) where
-    -- the node is one of the tree's
-    within : i < node-count tree
-    within = rw (← count) inside
+module _ {tree sheet : List ℕ} {nodes i k n : ℕ} {lower upper marks : List ℕ}
+    (asked : Node-asked tree sheet nodes i k n lower upper marks) where
+  -- the node is one of the tree's
+  within : i < node-count tree
+  within = rw (← asked .nodes-is) (asked .inside)
 
-    -- what the reader of a record asks
-    pub record-asked : HasRecord tree i
-    record-asked = record-within tree (pair .tree-good) i within
+  -- what the reader of a record asks
+  pub record-asked : HasRecord tree i
+  record-asked = record-within tree (asked .pair .tree-good) i within
 
-    -- what the cut of a basic event asks
-    pub cut-asked : (kind′ : ℕ) → kind′ ≡ kind tree i → kind′ ≡ 0 → (e : ℕ) → Is16 e (field-a tree i)
-        → (sheet-fault sheet ≡ Absent) × (e < event-count sheet) × Level k n
-    cut-asked kind′ q z e f = (pair .sheet-good, rw (f .value) (event-in-sheet i within (sym q ∙ z)), pair .level)
+  -- what the cut of a basic event asks
+  pub cut-asked : {kind′ : ℕ} → kind′ ≡ kind tree i → kind′ ≡ 0 → {e : ℕ} → Is16 e (field-a tree i)
+      → (sheet-fault sheet ≡ Absent) × (e < event-count sheet) × Level k n
+  cut-asked q z f = (
+    asked .pair .sheet-good,
+    rw (f .value) (event-in-sheet tree sheet k n (asked .pair) i within (sym q ∙ z)),
+    asked .pair .level,
+  )
 
-    -- the cut of a basic event is what is reported of its node
-    pub cut-answers : (kind′ : ℕ) → kind′ ≡ kind tree i → kind′ ≡ 0 → (e : ℕ) → Is16 e (field-a tree i) → (r : Enclosure)
-        → r ≡ cut-at sheet e k n → r ≡ node-enclosure tree sheet k n i
-    cut-answers kind′ q z e f r h =
-        h ∙ ap (λ (e : ℕ). cut-at sheet e k n) (f .value)
+  -- the cut of a basic event is what is reported of its node
+  pub cut-answers : (kind′ : ℕ) → kind′ ≡ kind tree i → kind′ ≡ 0 → (e : ℕ) → Is16 e (field-a tree i)
+      → (r : Enclosure) → r ≡ cut-at sheet e k n → r ≡ node-enclosure tree sheet k n i
+  cut-answers kind′ q z e f r h =
+      h ∙ ap (λ (e : ℕ). cut-at sheet e k n) (f .value)
+      ∙ ap₂ (λ (l u : End). record {
+        lower = l .value;
+        «lower_exact» = l .exact;
+        upper = u .value;
+        «upper_exact» = u .exact;
+      })
+      (event-end tree sheet k n (asked .pair) down i within (sym q ∙ z))
+      (event-end tree sheet k n (asked .pair) up i within (sym q ∙ z))
+
+  module _ (kind′ : ℕ) (q : kind′ ≡ kind tree i) (nz : kind′ ≡ 0 → ⊥) where
+    -- the node is a gate
+    is-gate : 1 ≤ kind tree i
+    is-gate = omega (arith, q, nz)
+
+    -- what a gate asks
+    pub gate-asked : Gate-stored tree nodes i kind′ lower upper marks
+    gate-asked = record {
+      nodes-is = asked .nodes-is;
+      nodes-most = rw (asked .nodes-is) (asked .pair .tree-good .nodes-most);
+      record-inside = record-asked;
+      kind-is = q;
+      inputs-are = gate-inputs tree i (λ z. omega (arith, is-gate));
+      part-inside =
+          omega (
+            arith,
+            links-end tree (asked .pair .tree-good) i within is-gate,
+            asked .pair .tree-good .length-value,
+            asked .pair .tree-good .nodes-least,
+          );
+      lower-stored =
+          inputs-stored tree sheet k n (asked .pair) i within is-gate lower marks (asked .stored .lower-long)
+          (asked .stored .marks-long)
+          (lower-in-units tree sheet k n (asked .pair) i lower upper marks (asked .stored) (le-of-lt within));
+      upper-stored =
+          inputs-stored tree sheet k n (asked .pair) i within is-gate upper marks (asked .stored .upper-long)
+          (asked .stored .marks-long)
+          (upper-in-units tree sheet k n (asked .pair) i lower upper marks (asked .stored) (le-of-lt within));
+    }
+
+    -- what a gate answers is what is reported of its node
+    pub gate-answers : (r : Enclosure) → r ≡ joined tree i lower upper marks
+        → r ≡ node-enclosure tree sheet k n i
+    gate-answers r h =
+        h
         ∙ ap₂ (λ (l u : End). record {
           lower = l .value;
           «lower_exact» = l .exact;
           upper = u .value;
           «upper_exact» = u .exact;
         })
-        (event-end down i within (sym q ∙ z)) (event-end up i within (sym q ∙ z))
-
-    module _ (lower upper marks : List ℕ) (s : Stored-before tree sheet k n i lower upper marks) (kind′ : ℕ)
-        (q : kind′ ≡ kind tree i) (nz : kind′ ≡ 0 → ⊥) where
-      is-gate : 1 ≤ kind tree i
-      is-gate = omega (arith, q, nz)
-
-      -- what a gate asks
-      pub gate-asked : Gate-stored tree nodes i kind′ lower upper marks
-      gate-asked = record {
-        nodes-is = count;
-        nodes-most = rw count (pair .tree-good .nodes-most);
-        record-inside = record-asked;
-        kind-is = q;
-        inputs-are = gate-inputs tree i (λ z. omega (arith, is-gate));
-        part-inside =
-            omega (
-              arith,
-              links-end tree (pair .tree-good) i within is-gate,
-              pair .tree-good .length-value,
-              pair .tree-good .nodes-least,
-            );
-        lower-stored =
-            inputs-stored i within is-gate lower marks (s .lower-long) (s .marks-long)
-            (lower-in-units i lower upper marks s (le-of-lt within));
-        upper-stored =
-            inputs-stored i within is-gate upper marks (s .upper-long) (s .marks-long)
-            (upper-in-units i lower upper marks s (le-of-lt within));
-      }
-
-      -- what a gate answers is what is reported of its node
-      pub gate-answers : (r : Enclosure) → r ≡ gate-enclosure-by tree i lower upper marks
-          → r ≡ node-enclosure tree sheet k n i
-      gate-answers r h =
-          h
-          ∙ ap₂ (λ (l u : End). record {
-            lower = l .value;
-            «lower_exact» = l .exact;
-            upper = u .value;
-            «upper_exact» = u .exact;
-          })
-          (gate-end-is i within is-gate false lower marks (stored-lower i lower upper marks s))
-          (gate-end-is i within is-gate true upper marks (stored-upper i lower upper marks s))
+        (gate-end-is tree sheet k n (asked .pair) i within is-gate false lower marks
+        (stored-lower tree sheet k n (asked .pair) i lower upper marks (asked .stored)))
+        (gate-end-is tree sheet k n (asked .pair) i within is-gate true upper marks
+        (stored-upper tree sheet k n (asked .pair) i lower upper marks (asked .stored)))

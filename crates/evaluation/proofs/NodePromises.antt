@@ -33,17 +33,19 @@ module _ (tree sheet : List ℕ) (k n : ℕ) (pair : Pair tree sheet k n) where
   unfolding node-end
   node-kept w i l =
       rw (table-events tree (pair .tree-good)) at
-      (node-promised (table-of tree) (λ i. i) (ranked-by-number (table-of tree) (table-links-below tree (pair .tree-good)))
+      (node-promised (table-of tree) (λ i. i)
+      (ranked-by-number (table-of tree) (table-links-below tree (pair .tree-good)))
       (table-numbered tree (pair .tree-good)) (table-linked-once tree (pair .tree-good)) (event-cut sheet k n)
       table-cuts-ordered billion (lit< tt) w i l)
 
-  -- whatever fractions the events have inside their cuts
+  -- the ends enclose the unreliability, whatever fractions the events have inside their cuts
   pub node-encloses : (i : ℕ) → i < node-count tree → (p : ℕ → Fraction)
       → ((e : ℕ) → e < events-before tree (node-count tree) → Inside (event-cut sheet k n e) (p e))
       → (in-units billion (node-end down tree sheet k n i .value) ≼ unreliability p (fault-tree tree i))
       × (unreliability p (fault-tree tree i) ≼ in-units billion (node-end up tree sheet k n i .value))
   unfolding node-end
   node-encloses i l p inside =
-      node-contained (table-of tree) (λ i. i) (ranked-by-number (table-of tree) (table-links-below tree (pair .tree-good)))
+      node-contained (table-of tree) (λ i. i)
+      (ranked-by-number (table-of tree) (table-links-below tree (pair .tree-good)))
       (table-numbered tree (pair .tree-good)) (table-linked-once tree (pair .tree-good)) (event-cut sheet k n)
       table-cuts-ordered billion (lit< tt) i l p (λ e h. inside e (rw (← table-events tree (pair .tree-good)) h))

@@ -13,15 +13,17 @@ use Rattle.theory.proofs.RoundingMeaning.{rounded-at-most, no-remainder}
 use Rattle.evaluation.specs.Ends.{InUnits, direction, stepped, complemented}
 use Rattle.evaluation.specs.declared.step.End.{End}
 
--- the product of two ends
+-- the product of two ends is at most U × U
 pub product-at-most : (x y : End) → InUnits x → InUnits y → x .value * y .value ≤ billion * billion
 product-at-most x y p q = mul-le-mul (p .at-most) (q .at-most)
 
+-- so it fits in 64 bits
 pub product-fits : (x y : End) → InUnits x → InUnits y → Fits w64 (x .value * y .value)
 product-fits x y p q = record { fits = lt-of-le-of-lt (product-at-most x y p q) (lit< tt) }
 
 -- what rounding up asks of a product
-pub product-roundable : (x y : End) → InUnits x → InUnits y → (0 < billion) × (x .value * y .value ≤ 1_000_000_000_000_000_000)
+pub product-roundable : (x y : End) → InUnits x → InUnits y
+    → (0 < billion) × (x .value * y .value ≤ 1_000_000_000_000_000_000)
 product-roundable x y p q = (lit< tt, product-at-most x y p q)
 
 -- the mark as the code reckons it
@@ -44,7 +46,8 @@ module _ (r x : End) (p : InUnits r) (q : InUnits x) where
         e (no-remainder (r .value * x .value) billion),
     record {
       at-most =
-          rw e (rounded-at-most (direction b) (r .value * x .value) billion billion (lit< tt) (product-at-most r x p q));
+          rw e
+          (rounded-at-most (direction b) (r .value * x .value) billion billion (lit< tt) (product-at-most r x p q));
     },
   )
 

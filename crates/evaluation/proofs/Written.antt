@@ -10,11 +10,14 @@ use lib.ListN.{length, getD, set, drop, length-append, length-drop, List·getD-a
 use lib.Seq.{drop-cons, set-at, getD-at}
 use Rattle.evaluation.specs.Report.{tabulated, written}
 
+-- a table of n values
 pub length-tabulated : (f : ℕ → ℕ) (n : ℕ) → length (tabulated f n) ≡ n
 length-tabulated f zero = refl
 length-tabulated f (suc n) = omega (arith, length-append (tabulated f n) (f n ∷ []), length-tabulated f n)
 
-pub length-written : (f : ℕ → ℕ) (n : ℕ) (before : List ℕ) → n ≤ length before → length (written f n before) ≡ length before
+-- writing keeps the length
+pub length-written : (f : ℕ → ℕ) (n : ℕ) (before : List ℕ) → n ≤ length before
+    → length (written f n before) ≡ length before
 length-written f n before l =
     omega (arith, length-append (tabulated f n) (drop n before), length-tabulated f n, length-drop n before)
 

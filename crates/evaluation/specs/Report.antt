@@ -37,7 +37,7 @@ node-enclosure tree sheet k n i = record {
 abbrev pub enclosure-mark : Enclosure → ℕ
 enclosure-mark x = cond (x .«lower_exact») 1 0 + 2 * cond (x .«upper_exact») 1 0
 
--- f 0, f 1, .. : n of them
+-- f 0, f 1, .. : n of them.
 abbrev pub tabulated : (ℕ → ℕ) → ℕ → List ℕ
 tabulated f zero = []
 tabulated f (suc n) = tabulated f n ++ (f n ∷ [])
@@ -46,22 +46,26 @@ tabulated f (suc n) = tabulated f n ++ (f n ∷ [])
 abbrev pub written : (ℕ → ℕ) → ℕ → List ℕ → List ℕ
 written f n before = tabulated f n ++ drop n before
 
--- What node i's place holds in each slice.
+-- What node i's place holds in the slice of lower ends.
 abbrev pub lower-value : List ℕ → List ℕ → ℕ → ℕ → ℕ → ℕ
 lower-value tree sheet k n i = node-end down tree sheet k n i .value
 
+-- What it holds in the slice of upper ends.
 abbrev pub upper-value : List ℕ → List ℕ → ℕ → ℕ → ℕ → ℕ
 upper-value tree sheet k n i = node-end up tree sheet k n i .value
 
+-- What it holds in the slice of marks.
 abbrev pub mark-value : List ℕ → List ℕ → ℕ → ℕ → ℕ → ℕ
 mark-value tree sheet k n i = mark-byte (node-end down tree sheet k n i) (node-end up tree sheet k n i)
 
--- The three slices after: place i for node i, places from N on unchanged.
+-- The slice of lower ends after: place i for node i, places from N on unchanged.
 abbrev pub lowers-after : List ℕ → List ℕ → ℕ → ℕ → List ℕ → List ℕ
 lowers-after tree sheet k n before = written (lower-value tree sheet k n) (node-count tree) before
 
+-- The slice of upper ends after.
 abbrev pub uppers-after : List ℕ → List ℕ → ℕ → ℕ → List ℕ → List ℕ
 uppers-after tree sheet k n before = written (upper-value tree sheet k n) (node-count tree) before
 
+-- The slice of marks after.
 abbrev pub marks-after : List ℕ → List ℕ → ℕ → ℕ → List ℕ → List ℕ
 marks-after tree sheet k n before = written (mark-value tree sheet k n) (node-count tree) before

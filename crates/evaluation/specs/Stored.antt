@@ -26,10 +26,12 @@ marked true m = eqb (m / 2 % 2) 1
 abbrev pub stored-end : Bool → List ℕ → List ℕ → ℕ → Theory-end
 stored-end upper values marks i = record { value = getD values i 0; exact = marked upper (getD marks i 0) }
 
+-- The code's `any` as a kind of gate: OR where it is true, AND where not.
 abbrev pub kind-as : Bool → GateKind
 kind-as false = all
 kind-as true = any
 
+-- An input or an answer as the fold goes by it: an OR's is what is missing to 1.
 abbrev pub seen-as : Bool → End → End
 seen-as any? x = as-code (seen (kind-as any?) billion (as-theory x))
 
@@ -51,6 +53,10 @@ fold-end any? upper links values marks inputs =
     (folded billion (turned (kind-as any?) (direction upper))
     (λ j. seen (kind-as any?) billion (stored-end upper values marks (linked links j))) 0 inputs)
 
+-- The same as the code's end.
+abbrev pub gate-as : Bool → Bool → List ℕ → List ℕ → List ℕ → ℕ → End
+gate-as any? upper links values marks inputs = as-code (fold-end any? upper links values marks inputs)
+
 -- The part of a tree file that starts at the first link of node i.
 abbrev pub part-of : List ℕ → ℕ → List ℕ
 part-of tree i = drop (link-at tree (field-a tree i)) tree
@@ -67,8 +73,8 @@ pub record Gate-stored (tree : List ℕ) (nodes i kind′ : ℕ) (lower upper ma
   pub upper-stored : Inputs-stored (part-of tree i) (field-b tree i) upper marks
 
 -- Both ends of a gate by its inputs' stored ends.
-abbrev pub gate-enclosure-by : List ℕ → ℕ → List ℕ → List ℕ → List ℕ → Enclosure
-gate-enclosure-by tree i lower upper marks =
+abbrev pub joined : List ℕ → ℕ → List ℕ → List ℕ → List ℕ → Enclosure
+joined tree i lower upper marks =
     let low : Theory-end = fold-end (eqb (kind tree i) 2) false (part-of tree i) lower marks (field-b tree i) in
     let high : Theory-end = fold-end (eqb (kind tree i) 2) true (part-of tree i) upper marks (field-b tree i) in
     record { lower = low .value; «lower_exact» = low .exact; upper = high .value; «upper_exact» = high .exact }

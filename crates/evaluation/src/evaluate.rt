@@ -2,11 +2,8 @@
 use crate::node::enclosure_at;
 use opinion_sheet::cut::Enclosure;
 ghost use mathlib.Core.Path.{_≡_};
-ghost use Prim.Native.Nat.{_≤_};
-ghost use lib.ListN.{length};
-ghost use Rattle.tree_file.specs.Format.{node-count};
 ghost use Rattle.evaluation.specs.Report.{enclosure-mark, lowers-after, uppers-after, marks-after};
-ghost use Rattle.evaluation.specs.Requirements.{Pair};
+ghost use Rattle.evaluation.specs.Requirements.{Evaluable};
 
 // The mark byte of a node's ends.
 fn mark_of(ends: Enclosure) -> u8
@@ -35,10 +32,10 @@ pub fn evaluate(
     upper: &mut [u32],
     marks: &mut [u8],
 )
-    requires { ⌜ Pair (now tree) (now sheet) k n × (nodes ≡ node-count (now tree)) × (nodes ≤ length (now lower)) × (nodes ≤ length (now upper)) × (nodes ≤ length (now marks)) ⌝ }
-    ensures { λ _. ⌜ now (lower .exit) ≡ lowers-after (now (tree .entry)) (now (sheet .entry)) k n (now (lower .entry)) ⌝ }
-    ensures { λ _. ⌜ now (upper .exit) ≡ uppers-after (now (tree .entry)) (now (sheet .entry)) k n (now (upper .entry)) ⌝ }
-    ensures { λ _. ⌜ now (marks .exit) ≡ marks-after (now (tree .entry)) (now (sheet .entry)) k n (now (marks .entry)) ⌝ }
+    requires { ⌜ Evaluable (tree .now) (sheet .now) nodes k n (lower .now) (upper .now) (marks .now) ⌝ }
+    ensures { λ _. ⌜ lower .exit .now ≡ lowers-after (tree .entry .now) (sheet .entry .now) k n (lower .entry .now) ⌝ }
+    ensures { λ _. ⌜ upper .exit .now ≡ uppers-after (tree .entry .now) (sheet .entry .now) k n (upper .entry .now) ⌝ }
+    ensures { λ _. ⌜ marks .exit .now ≡ marks-after (tree .entry .now) (sheet .entry .now) k n (marks .entry .now) ⌝ }
 {
     let mut i = 0;
     while i < nodes {

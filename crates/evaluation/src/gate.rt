@@ -6,8 +6,8 @@ use crate::stored::end_at;
 use tree_file::format::field_at;
 ghost use mathlib.Core.Path.{_≡_};
 ghost use Rattle.theory.proofs.GateFold.{turned};
-ghost use Rattle.evaluation.specs.Ends.{InUnits, direction, as-code};
-ghost use Rattle.evaluation.specs.Stored.{kind-as, seen-as, Inputs-stored, fold-end};
+ghost use Rattle.evaluation.specs.Ends.{InUnits, direction};
+ghost use Rattle.evaluation.specs.Stored.{kind-as, seen-as, Inputs-stored, gate-as};
 
 // An OR goes by what is missing to 1, at its inputs and at its answer.
 fn seen(any: bool, x: End) -> End
@@ -30,8 +30,8 @@ fn rounds_up(any: bool, upper: bool) -> bool
     upper
 }
 
-// The end of a gate, AND or OR, lower or upper, by the stored ends of the nodes that its links name. The links are the part
-// of the tree file that starts at the gate's first link.
+// The end of a gate, AND or OR, lower or upper, by the stored ends of the nodes that its links name. The links are the
+// part of the tree file that starts at the gate's first link.
 pub fn gate_end(
     links: &[u8],
     inputs: usize,
@@ -41,7 +41,8 @@ pub fn gate_end(
     marks: &[u8],
 ) -> End
     requires { ⌜ Inputs-stored (now links) inputs (now values) (now marks) ⌝ }
-    ensures { λ r. ⌜ (r ≡ as-code (fold-end any upper (now (links .entry)) (now (values .entry)) (now (marks .entry)) inputs)) × InUnits r ⌝ }
+    ensures { λ r. ⌜ r ≡ gate-as any upper (now (links .entry)) (now (values .entry)) (now (marks .entry)) inputs ⌝ }
+    ensures { λ r. ⌜ InUnits r ⌝ }
 {
     let upward = rounds_up(any, upper);
     let mut running = End {

@@ -6,11 +6,9 @@ use tree_file::format::field_a_at;
 use tree_file::format::input_count_at;
 use tree_file::format::kind_at;
 ghost use mathlib.Core.Path.{_≡_};
-ghost use Prim.Native.Nat.{_<_};
-ghost use Rattle.tree_file.specs.Format.{node-count};
-ghost use Rattle.evaluation.specs.Stored.{Gate-stored, gate-enclosure-by};
+ghost use Rattle.evaluation.specs.Stored.{Gate-stored, joined};
 ghost use Rattle.evaluation.specs.Report.{node-enclosure};
-ghost use Rattle.evaluation.specs.Requirements.{Pair, Stored-before};
+ghost use Rattle.evaluation.specs.Requirements.{Node-asked};
 
 // The ends of a gate: the fold gets the part of the tree that starts at the gate's first link.
 fn gate_enclosure(
@@ -23,7 +21,7 @@ fn gate_enclosure(
     marks: &[u8],
 ) -> Enclosure
     requires { ⌜ Gate-stored (now tree) nodes i kind (now lower) (now upper) (now marks) ⌝ }
-    ensures { λ r. ⌜ r ≡ gate-enclosure-by (now (tree .entry)) i (now (lower .entry)) (now (upper .entry)) (now (marks .entry)) ⌝ }
+    ensures { λ r. ⌜ r ≡ joined (now (tree .entry)) i (now (lower .entry)) (now (upper .entry)) (now (marks .entry)) ⌝ }
 {
     let first = field_a_at(tree, i);
     let inputs = input_count_at(tree, i);
@@ -52,7 +50,7 @@ pub fn enclosure_at(
     upper: &[u32],
     marks: &[u8],
 ) -> Enclosure
-    requires { ⌜ (nodes ≡ node-count (now tree)) × (i < nodes) × Pair (now tree) (now sheet) k n × Stored-before (now tree) (now sheet) k n i (now lower) (now upper) (now marks) ⌝ }
+    requires { ⌜ Node-asked (now tree) (now sheet) nodes i k n (now lower) (now upper) (now marks) ⌝ }
     ensures { λ r. ⌜ r ≡ node-enclosure (now (tree .entry)) (now (sheet .entry)) k n i ⌝ }
 {
     let kind = kind_at(tree, i);

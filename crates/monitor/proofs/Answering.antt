@@ -58,7 +58,8 @@ module _ (tree sheet : List ℕ) (k n : ℕ) (pair : Pair tree sheet k n) (lower
   }
 
   -- what the root's place holds is the report
-  pub report-read : (sizes : Sizes) → sizes .nodes ≡ node-count tree → sizes .events ≡ events-before tree (node-count tree)
+  pub report-read : (sizes : Sizes) → sizes .nodes ≡ node-count tree
+      → sizes .events ≡ events-before tree (node-count tree)
       → record {
         lower = getD lower (sizes .nodes - 1) 0;
         «lower_exact» = eqb (getD marks (sizes .nodes - 1) 0 % 2) 1;
@@ -70,14 +71,15 @@ module _ (tree sheet : List ℕ) (k n : ℕ) (pair : Pair tree sheet k n) (lower
   report-read sizes en ee =
       let low = node-end down tree sheet k n (root tree) in
       let high = node-end up tree sheet k n (root tree) in
+      let mark = all-stored .marks-at (root tree) root-inside in
       rw (en, ee)
       (λ i. record {
         lower = all-stored .lower-at (root tree) root-inside i;
         «lower_exact» =
-            (ap (λ (m : ℕ). eqb (m % 2) 1) (all-stored .marks-at (root tree) root-inside) ∙ marked-lower low high) i;
+            (ap (λ (m : ℕ). eqb (m % 2) 1) mark ∙ marked-lower low high) i;
         upper = all-stored .upper-at (root tree) root-inside i;
         «upper_exact» =
-            (ap (λ (m : ℕ). eqb (m / 2 % 2) 1) (all-stored .marks-at (root tree) root-inside) ∙ marked-upper low high) i;
+            (ap (λ (m : ℕ). eqb (m / 2 % 2) 1) mark ∙ marked-upper low high) i;
         events = events-before tree (node-count tree);
       })
 

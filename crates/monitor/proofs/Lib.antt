@@ -1,4 +1,5 @@
--- What the calls' proofs share, in the order of the argument.
+-- What the calls' proofs share, in the order of the argument: a hand-in; the judging of a question, by its parts and
+-- then whole; the answer of a pair that is ready; the reply. Assumes nothing.
 pub mod HandIn
 pub mod FirstFault
 pub mod HeldFiles

@@ -29,10 +29,11 @@ use Rattle.monitor.proofs.Standing.{Ready-pair, ready-pair}
 use Rattle.monitor.proofs.Answering.{pair-of-ready, answer-kept}
 
 module _ (state : State) (tree-store sheet-store : List ℕ) (k n : ℕ) (lower upper marks : List ℕ) where
-  -- the files held
+  -- the tree file held
   abbrev tree : List ℕ
   tree = held (state .«tree_len») tree-store
 
+  -- the sheet held
   abbrev sheet : List ℕ
   sheet = held (state .«sheet_len») sheet-store
 
@@ -63,10 +64,11 @@ module _ (state : State) (tree-store sheet-store : List ℕ) (k n : ℕ) (lower 
     pub refused-by-judging : (r : Refusal) → s ≡ standing.Refused r → All-promised (Refused r) lower upper marks
     unfolding outcome-of
     refused-by-judging r q =
-        refused-all r
-        (ap (λ (s : Standing). outcome-by s (too-short (node-count tree) lower upper marks) (report-of tree sheet k n)) (sym e ∙ q))
+        let short = too-short (node-count tree) lower upper marks in
+        refused-all r (ap (λ (s : Standing). outcome-by s short (report-of tree sheet k n)) (sym e ∙ q))
 
     module _ (sizes : Sizes) (q : s ≡ standing.Ready sizes) where
+      -- what a pair that is ready is
       ready : Ready-pair state tree-store sheet-store k n sizes
       ready = ready-pair state tree-store sheet-store k n sizes (sym e ∙ q)
 
@@ -76,35 +78,33 @@ module _ (state : State) (tree-store sheet-store : List ℕ) (k n : ℕ) (lower 
           ≡ outcome-by (standing.Ready sizes) short (report-of tree sheet k n)
       unfolding outcome-of
       ready-outcome short t =
-          ap (λ (s : Standing). outcome-by s (too-short (node-count tree) lower upper marks) (report-of tree sheet k n)) (sym e ∙ q)
-          ∙ ap (λ (nodes : ℕ). outcome-by (standing.Ready sizes) (too-short nodes lower upper marks) (report-of tree sheet k n))
+          let report = report-of tree sheet k n in
+          ap (λ (s : Standing). outcome-by s (too-short (node-count tree) lower upper marks) report) (sym e ∙ q)
+          ∙ ap (λ (nodes : ℕ). outcome-by (standing.Ready sizes) (too-short nodes lower upper marks) report)
           (sym (ready .nodes-value))
-          ∙ ap (λ (short : Bool). outcome-by (standing.Ready sizes) short (report-of tree sheet k n)) t
+          ∙ ap (λ (short : Bool). outcome-by (standing.Ready sizes) short report) t
 
       -- refused by 25
       pub refused-by-slices : too-short (sizes .nodes) lower upper marks ≡ true
           → All-promised (Refused ShortSlice) lower upper marks
       refused-by-slices t = refused-all ShortSlice (ready-outcome true t)
 
-      -- the held lengths lie inside the stores
+      -- the held tree has its length
       pub tree-taken : state .«tree_len» ≡ length (take (state .«tree_len») tree-store)
       tree-taken = sym (length-take-le (state .«tree_len») tree-store (ready .tree-inside))
 
+      -- and the held sheet its own
       pub sheet-taken : state .«sheet_len» ≡ length (take (state .«sheet_len») sheet-store)
       sheet-taken = sym (length-take-le (state .«sheet_len») sheet-store (ready .sheet-inside))
-
-      pub tree-within : state .«tree_len» ≤ length tree-store
-      tree-within = ready .tree-inside
-
-      pub sheet-within : state .«sheet_len» ≤ length sheet-store
-      sheet-within = ready .sheet-inside
 
       module _ (t : too-short (sizes .nodes) lower upper marks ≡ false) where
         -- what the evaluation asks
         pub answerable : Answerable tree sheet sizes k n lower upper marks
         answerable =
-            let first = or-lacks (ltb (length lower) (sizes .nodes) || ltb (length upper) (sizes .nodes)) (ltb (length marks) (sizes .nodes)) t in
-            let second = or-lacks (ltb (length lower) (sizes .nodes)) (ltb (length upper) (sizes .nodes)) (first .0) in
+            let short-lower = ltb (length lower) (sizes .nodes) in
+            let short-upper = ltb (length upper) (sizes .nodes) in
+            let first = or-lacks (short-lower || short-upper) (ltb (length marks) (sizes .nodes)) t in
+            let second = or-lacks short-lower short-upper (first .0) in
             record {
               pair = pair-of-ready state tree-store sheet-store k n sizes ready;
               nodes-is = ready .nodes-value;
@@ -130,8 +130,9 @@ module _ (state : State) (tree-store sheet-store : List ℕ) (k n : ℕ) (lower 
                   (
                     em ∙ ap (λ (o : Outcome). slice-by o marks (marks-after tree sheet k n marks)) (sym o),
                     rw er
-                        (answer-kept tree sheet k n (answerable .pair) lower upper marks (le-trans longer (answerable .lower-long))
-                        (le-trans longer (answerable .upper-long)) (le-trans longer (answerable .marks-long)) l u m el eu em),
+                        (answer-kept tree sheet k n (answerable .pair) lower upper marks
+                        (le-trans longer (answerable .lower-long)) (le-trans longer (answerable .upper-long))
+                        (le-trans longer (answerable .marks-long)) l u m el eu em),
                   ),
                 ),
               ),

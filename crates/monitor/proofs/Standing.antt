@@ -41,21 +41,23 @@ use Rattle.monitor.specs.declared.held.HeldSheet.{HeldSheet}
 use Rattle.monitor.specs.declared.held.HeldSheet.the-variants as sheet
 use Rattle.monitor.proofs.FirstFault.{first-kept, others-free, last-kept}
 
--- A held tree that has changed does not stand; one that was counted does, with its own counts.
+-- A held tree that has changed does not stand.
 tree-falls : (b : Bool) (own : TreeCounts) → tree.Changed ≡ cond b (tree.Counted own) tree.Changed → b ≡ false
 tree-falls false own e = refl
 tree-falls true own e = let z : _≡_ {A = ℕ} 0 1 = cc in absurd (omega arith)
 
+-- One that was counted stands, with its own counts.
 tree-counts-own : (b : Bool) (own counts : TreeCounts) → tree.Counted counts ≡ cond b (tree.Counted own) tree.Changed
     → (b ≡ true) × (counts ≡ own)
 tree-counts-own true own counts e = (refl, cc)
 tree-counts-own false own counts e = let z : _≡_ {A = ℕ} 0 1 = cc in absurd (omega arith)
 
--- So does a held sheet.
+-- A held sheet that has changed does not stand.
 sheet-falls : (b : Bool) (own : SheetCounts) → sheet.Changed ≡ cond b (sheet.Counted own) sheet.Changed → b ≡ false
 sheet-falls false own e = refl
 sheet-falls true own e = let z : _≡_ {A = ℕ} 0 1 = cc in absurd (omega arith)
 
+-- One that was counted stands, with its own counts.
 sheet-counts-own : (b : Bool) (own counts : SheetCounts)
     → sheet.Counted counts ≡ cond b (sheet.Counted own) sheet.Changed → (b ≡ true) × (counts ≡ own)
 sheet-counts-own true own counts e = (refl, cc)
@@ -64,28 +66,34 @@ sheet-counts-own false own counts e = let z : _≡_ {A = ℕ} 0 1 = cc in absurd
 -- The standing, refusal by refusal, in the order of the judging.
 module _ (state : State) (tree-store sheet-store : List ℕ) (k n : ℕ) (in-range : Bool)
     (le : in-range ≡ level-good k n) where
+  -- 13
   pub level-refused : in-range ≡ false → Refused Level ≡ standing-of state tree-store sheet-store k n
   unfolding standing-of
   level-refused f = rw (← le, f)
 
   module _ (lt : in-range ≡ true) where
+    -- 21
     pub no-tree : state .«tree_len» ≡ 0 → Refused NoTree ≡ standing-of state tree-store sheet-store k n
     unfolding standing-of
     no-tree z = rw (← le, lt, z)
 
     module _ (some-tree : state .«tree_len» ≡ 0 → ⊥) where
+      -- a tree is held
       tree-held : leb 1 (state .«tree_len») ≡ true
       tree-held = le-leb 1 (state .«tree_len») (omega arith)
 
+      -- 22
       pub no-sheet : state .«sheet_len» ≡ 0 → Refused NoSheet ≡ standing-of state tree-store sheet-store k n
       unfolding standing-of
       no-sheet z = rw (← le, lt, tree-held, z)
 
       module _ (some-sheet : state .«sheet_len» ≡ 0 → ⊥) (t : HeldTree)
           (te : t ≡ held-tree (state .«tree_len») tree-store) where
+        -- a sheet is held
         sheet-held : leb 1 (state .«sheet_len») ≡ true
         sheet-held = le-leb 1 (state .«sheet_len») (omega arith)
 
+        -- 23 of the tree
         pub tree-refused : t ≡ tree.Changed → Refused TreeChanged ≡ standing-of state tree-store sheet-store k n
         unfolding standing-of held-tree
         tree-refused c =
@@ -95,6 +103,7 @@ module _ (state : State) (tree-store sheet-store : List ℕ) (k n : ℕ) (in-ran
 
         module _ (tc : TreeCounts) (tq : t ≡ tree.Counted tc) (s : HeldSheet)
             (se : s ≡ held-sheet (state .«sheet_len») sheet-store) where
+          -- the tree stands, with its own counts
           tree-own : (tree-stands (state .«tree_len») tree-store ≡ true)
               × (tc ≡ tree-counts (held (state .«tree_len») tree-store))
           unfolding held-tree
@@ -102,6 +111,7 @@ module _ (state : State) (tree-store sheet-store : List ℕ) (k n : ℕ) (in-ran
               tree-counts-own (tree-stands (state .«tree_len») tree-store)
               (tree-counts (held (state .«tree_len») tree-store)) tc (sym tq ∙ te)
 
+          -- 23 of the sheet
           pub sheet-refused : s ≡ sheet.Changed → Refused SheetChanged ≡ standing-of state tree-store sheet-store k n
           unfolding standing-of held-sheet
           sheet-refused c =
@@ -110,6 +120,7 @@ module _ (state : State) (tree-store sheet-store : List ℕ) (k n : ℕ) (in-ran
               rw (← le, lt, tree-held, sheet-held, tree-own .0, falls)
 
           module _ (sc : SheetCounts) (sq : s ≡ sheet.Counted sc) (b : Bool) (be : b ≡ fitting-pair tc sc) where
+            -- the sheet stands, with its own counts
             sheet-own : (sheet-stands (state .«sheet_len») sheet-store ≡ true)
                 × (sc ≡ sheet-counts (held (state .«sheet_len») sheet-store))
             unfolding held-sheet
@@ -117,14 +128,17 @@ module _ (state : State) (tree-store sheet-store : List ℕ) (k n : ℕ) (in-ran
                 sheet-counts-own (sheet-stands (state .«sheet_len») sheet-store)
                 (sheet-counts (held (state .«sheet_len») sheet-store)) sc (sym sq ∙ se)
 
+            -- the test of the pair is that of the files held
             pair-fits : b ≡ fitting-pair (tree-counts (held (state .«tree_len») tree-store))
                 (sheet-counts (held (state .«sheet_len») sheet-store))
             pair-fits = be ∙ (λ i. fitting-pair (tree-own .1 i) (sheet-own .1 i))
 
+            -- 24
             pub pair-refused : b ≡ false → Refused OtherTree ≡ standing-of state tree-store sheet-store k n
             unfolding standing-of
             pair-refused f = rw (← le, lt, tree-held, sheet-held, tree-own .0, sheet-own .0, ← pair-fits, f)
 
+            -- no refusal: the sizes of the held tree
             pub pair-ready : b ≡ true → Ready (record { nodes = tc .nodes; events = tc .events })
                 ≡ standing-of state tree-store sheet-store k n
             unfolding standing-of
@@ -138,12 +152,14 @@ accepted-own-tree : (file : List ℕ) (j : TreeJudgement) → judged-tree file �
 accepted-own-tree file (accepted-tree counts) e a = e ∙ ap accepted-tree (accepted-counts file counts e)
 accepted-own-tree file (refused-tree fault) e a = absurd (false≢true a)
 
+-- So is a sheet.
 accepted-own-sheet : (file : List ℕ) (j : SheetJudgement) → judged-sheet file ≡ j → accepted-sheet? j ≡ true
     → judged-sheet file ≡ accepted-sheet (sheet-counts file)
 accepted-own-sheet file (accepted-sheet counts) e a = e ∙ ap accepted-sheet (accepted-laws file counts e .counts-read)
 accepted-own-sheet file (refused-sheet fault) e a = absurd (false≢true a)
 
 module _ (len : ℕ) (store : List ℕ) where
+  -- of the tree
   standing-tree : tree-stands len store ≡ true
       → (len ≤ length store) × (judged-tree (held len store) ≡ accepted-tree (tree-counts (held len store)))
   unfolding tree-stands
@@ -152,6 +168,7 @@ module _ (len : ℕ) (store : List ℕ) where
       let both = and-eq-true-iff (leb len (length store)) (accepted-tree? judgement) .0 e in
       (leb-true len (length store) (both .0), accepted-own-tree (held len store) judgement refl (both .1))
 
+  -- of the sheet
   standing-sheet : sheet-stands len store ≡ true
       → (len ≤ length store) × (judged-sheet (held len store) ≡ accepted-sheet (sheet-counts (held len store)))
   unfolding sheet-stands
@@ -160,6 +177,7 @@ module _ (len : ℕ) (store : List ℕ) where
       let both = and-eq-true-iff (leb len (length store)) (accepted-sheet? judgement) .0 e in
       (leb-true len (length store) (both .0), accepted-own-sheet (held len store) judgement refl (both .1))
 
+-- A level in range.
 level-range : (k n : ℕ) → level-good k n ≡ true → (1 ≤ n) × (n ≤ 1000) × (k ≤ n)
 unfolding level-good
 level-range k n e =
@@ -167,6 +185,7 @@ level-range k n e =
     let by-n = and-eq-true-iff (leb 1 n) (leb n 1000) .0 (all .0) in
     (leb-true 1 n (by-n .0), leb-true n 1000 (by-n .1), leb-true k n (all .1))
 
+-- A sheet that fits is for the tree and has its number of basic events.
 pair-agrees : (t : TreeCounts) (s : SheetCounts) → fitting-pair t s ≡ true
     → (t .number ≡ s .tree) × (s .events ≡ t .events)
 unfolding fitting-pair
@@ -207,13 +226,16 @@ record Kept (state : State) (tree-store sheet-store : List ℕ) (k n : ℕ) : Ty
       (sheet-counts (held (state .«sheet_len») sheet-store)) ≡ true
 
 module _ (state : State) (tree-store sheet-store : List ℕ) (k n : ℕ) where
+  -- 24, of the files held
   fault-of-pair : FirstFault
   fault-of-pair = pair-fault (held (state .«tree_len») tree-store) (held (state .«sheet_len») sheet-store)
 
+  -- 23 of the tree, 23 of the sheet, 24
   fault-of-files : FirstFault
   unfolding fault-of-pair
   fault-of-files = tree-fault state tree-store or-else sheet-fault state sheet-store or-else fault-of-pair
 
+  -- a question with no fault keeps every rule
   all-kept : level-fault k n or-else no-tree-fault state or-else no-sheet-fault state or-else fault-of-files ≡ Absent
       → Kept state tree-store sheet-store k n
   unfolding fault-of-pair fault-of-files
@@ -236,6 +258,7 @@ module _ (state : State) (tree-store sheet-store : List ℕ) (k n : ℕ) where
         pair = last-kept pair OtherTree (others-free stands-sheet SheetChanged fault-of-pair sheet-free);
       }
 
+  -- a standing that is ready is that of a ready pair
   pub ready-pair : (sizes : Sizes) → standing-of state tree-store sheet-store k n ≡ Ready sizes
       → Ready-pair state tree-store sheet-store k n sizes
   unfolding standing-of fault-of-pair fault-of-files

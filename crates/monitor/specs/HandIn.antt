@@ -22,10 +22,12 @@ use Rattle.monitor.specs.declared.hand_in.Answer.{Answer}
 abbrev pub fitting : List ℕ → List ℕ → Verdict
 fitting file store = cond (leb (length file) (length store)) Accepted (Refused ShortStore)
 
+-- The verdict on a tree file by its judgement: its own fault, or whether it fits.
 abbrev pub tree-verdict-by : TreeJudgement → Verdict → Verdict
 tree-verdict-by (refused-tree fault) v = Refused (Tree fault)
 tree-verdict-by (accepted-tree counts) v = v
 
+-- The verdict on a sheet by its judgement.
 abbrev pub sheet-verdict-by : SheetJudgement → Verdict → Verdict
 sheet-verdict-by (refused-sheet fault) v = Refused (Sheet fault)
 sheet-verdict-by (accepted-sheet counts) v = v
@@ -47,30 +49,35 @@ abbrev pub answer-by : Verdict → State → State → Answer
 answer-by (Refused r) before after = record { state = before; verdict = Refused r }
 answer-by Accepted before after = record { state = after; verdict = Accepted }
 
--- The store after a hand-in.
+-- The store after a hand-in: as it was where the file is refused.
 abbrev pub store-by : Verdict → List ℕ → List ℕ → List ℕ
 store-by (Refused r) file store = store
 store-by Accepted file store = with-front file store
 
--- The state that holds a tree file, or a sheet, of that length.
+-- The state that holds a tree file of that length, and the sheet as before.
 abbrev pub holding-tree : ℕ → State → State
 holding-tree n state = record { «tree_len» = n; «sheet_len» = state .«sheet_len» }
 
+-- The state that holds a sheet of that length, and the tree as before.
 abbrev pub holding-sheet : ℕ → State → State
 holding-sheet n state = record { «tree_len» = state .«tree_len»; «sheet_len» = n }
 
+-- What `hand_in_tree` answers.
 unfoldable pub tree-answer : State → List ℕ → List ℕ → Answer
 tree-answer state file store = answer-by (tree-verdict file store) state (holding-tree (length file) state)
 
+-- The tree's store after it.
 unfoldable pub tree-store : List ℕ → List ℕ → List ℕ
 tree-store file store = store-by (tree-verdict file store) file store
 
+-- What `hand_in_sheet` answers.
 unfoldable pub sheet-answer : State → List ℕ → List ℕ → Answer
 sheet-answer state file store = answer-by (sheet-verdict file store) state (holding-sheet (length file) state)
 
+-- The sheet's store after it.
 unfoldable pub sheet-store : List ℕ → List ℕ → List ℕ
 sheet-store file store = store-by (sheet-verdict file store) file store
 
--- The state that holds nothing.
+-- The state that holds nothing: what `drop_both` answers.
 abbrev pub nothing-held : State
 nothing-held = record { «tree_len» = 0; «sheet_len» = 0 }

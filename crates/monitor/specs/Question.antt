@@ -1,5 +1,5 @@
--- What a question answers and leaves in the work slices: by the question, the slices lent for it and the two files held.
--- Assumes nothing.
+-- What a question answers and what it leaves in the work slices, by the level asked, the slices lent for it and the two
+-- files held. `question` answers `reply-of` and leaves `lowers-left`, `uppers-left` and `marks-left`. Assumes nothing.
 use Prim.Native.Nat.{ℕ, _-_, _≤_}
 use mathlib.Core.Path.{_≡_}
 use mathlib.Core.Bool.{Bool, true, false, _||_}
@@ -22,7 +22,7 @@ use Rattle.monitor.specs.declared.question.Outcome.{Outcome}
 use Rattle.monitor.specs.declared.question.Outcome.the-variants.{Answered, Refused}
 use Rattle.monitor.specs.declared.question.Reply.{Reply}
 
--- The root is the last node.
+-- The root is the last node, N − 1: an accepted tree has N at least 1, so the subtraction never stops at 0.
 abbrev pub root : List ℕ → ℕ
 root tree = node-count tree - 1
 
@@ -46,44 +46,48 @@ outcome-by (standing.Refused r) short report = Refused r
 outcome-by (standing.Ready sizes) true report = Refused ShortSlice
 outcome-by (standing.Ready sizes) false report = Answered report
 
-module _ (state : State) (tree-store sheet-store : List ℕ) (k n : ℕ) (lower upper marks : List ℕ) where
-  -- the files held, as their bytes stand
-  abbrev pub held-tree-bytes : List ℕ
-  held-tree-bytes = held (state .«tree_len») tree-store
+-- The tree file held, as its bytes stand.
+abbrev pub held-tree-bytes : State → List ℕ → List ℕ
+held-tree-bytes state store = held (state .«tree_len») store
 
-  abbrev pub held-sheet-bytes : List ℕ
-  held-sheet-bytes = held (state .«sheet_len») sheet-store
+-- The sheet held, as its bytes stand.
+abbrev pub held-sheet-bytes : State → List ℕ → List ℕ
+held-sheet-bytes state store = held (state .«sheet_len») store
 
-  unfoldable pub outcome-of : Outcome
-  outcome-of =
-      outcome-by (standing-of state tree-store sheet-store k n)
-      (too-short (node-count held-tree-bytes) lower upper marks) (report-of held-tree-bytes held-sheet-bytes k n)
-
-  -- the state comes back as it was
-  abbrev pub reply-of : Reply
-  reply-of = record { state = state; outcome = outcome-of }
-
--- The second where the question is answered, the first where it is refused.
+-- A slice after a question: as evaluated where it is answered, as it was where it is refused.
 abbrev pub slice-by : Outcome → List ℕ → List ℕ → List ℕ
 slice-by (Refused r) before after = before
 slice-by (Answered report) before after = after
 
 module _ (state : State) (tree-store sheet-store : List ℕ) (k n : ℕ) (lower upper marks : List ℕ) where
-  -- each slice after: as it was where the question is refused
+  -- the two files held
+  abbrev tree : List ℕ
+  tree = held-tree-bytes state tree-store
+
+  abbrev sheet : List ℕ
+  sheet = held-sheet-bytes state sheet-store
+
+  -- the first refusal in document 01's order, 25 the last, or the root's results and E
+  unfoldable pub outcome-of : Outcome
+  outcome-of =
+      outcome-by (standing-of state tree-store sheet-store k n) (too-short (node-count tree) lower upper marks)
+      (report-of tree sheet k n)
+
+  -- the state comes back as it was
+  abbrev pub reply-of : Reply
+  reply-of = record { state = state; outcome = outcome-of }
+
+  -- the lower ends after: those of the nodes at their places, the rest as it was
   abbrev pub lowers-left : List ℕ
-  lowers-left =
-      slice-by (outcome-of state tree-store sheet-store k n lower upper marks) lower
-      (lowers-after (held (state .«tree_len») tree-store) (held (state .«sheet_len») sheet-store) k n lower)
+  lowers-left = slice-by outcome-of lower (lowers-after tree sheet k n lower)
 
+  -- the upper ends after
   abbrev pub uppers-left : List ℕ
-  uppers-left =
-      slice-by (outcome-of state tree-store sheet-store k n lower upper marks) upper
-      (uppers-after (held (state .«tree_len») tree-store) (held (state .«sheet_len») sheet-store) k n upper)
+  uppers-left = slice-by outcome-of upper (uppers-after tree sheet k n upper)
 
+  -- the mark bytes after
   abbrev pub marks-left : List ℕ
-  marks-left =
-      slice-by (outcome-of state tree-store sheet-store k n lower upper marks) marks
-      (marks-after (held (state .«tree_len») tree-store) (held (state .«sheet_len») sheet-store) k n marks)
+  marks-left = slice-by outcome-of marks (marks-after tree sheet k n marks)
 
 -- What the evaluation asks: a pair that is ready, with its sizes, and slices that are long enough.
 pub record Answerable (tree sheet : List ℕ) (sizes : Sizes) (k n : ℕ) (lower upper marks : List ℕ) : Type 0 where

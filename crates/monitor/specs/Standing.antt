@@ -37,18 +37,21 @@ held len store = take len store
 unfoldable pub level-good : ℕ → ℕ → Bool
 level-good k n = leb 1 n && leb n 1000 && leb k n
 
+-- Whether a tree file is accepted, by its judgement.
 abbrev pub accepted-tree? : TreeJudgement → Bool
 accepted-tree? (accepted-tree counts) = true
 accepted-tree? (refused-tree fault) = false
 
+-- Whether a sheet is accepted, by its judgement.
 abbrev pub accepted-sheet? : SheetJudgement → Bool
 accepted-sheet? (accepted-sheet counts) = true
 accepted-sheet? (refused-sheet fault) = false
 
--- The held length lies inside the store, and the held bytes are an accepted tree file, or sheet.
+-- The held length lies inside the store, and the held bytes are an accepted tree file.
 unfoldable pub tree-stands : ℕ → List ℕ → Bool
 tree-stands len store = leb len (length store) && accepted-tree? (judged-tree (held len store))
 
+-- The held length lies inside the store, and the held bytes are an accepted sheet.
 unfoldable pub sheet-stands : ℕ → List ℕ → Bool
 sheet-stands len store = leb len (length store) && accepted-sheet? (judged-sheet (held len store))
 
@@ -72,7 +75,7 @@ no-sheet-fault state = unless (leb 1 (state .«sheet_len»)) NoSheet
 abbrev pub tree-fault : State → List ℕ → FirstFault
 tree-fault state store = unless (tree-stands (state .«tree_len») store) TreeChanged
 
--- 23 of the sheet.
+-- 23 of the sheet, as of the tree.
 abbrev pub sheet-fault : State → List ℕ → FirstFault
 sheet-fault state store = unless (sheet-stands (state .«sheet_len») store) SheetChanged
 
@@ -101,9 +104,10 @@ standing-of state tree-store sheet-store k n =
     pair-fault (held (state .«tree_len») tree-store) (held (state .«sheet_len») sheet-store))
     (sizes-of (held (state .«tree_len») tree-store))
 
--- What judging a held file answers: its counts where it stands.
+-- What judging the held tree answers: its counts where it stands.
 unfoldable pub held-tree : ℕ → List ℕ → HeldTree
 held-tree len store = cond (tree-stands len store) (tree.Counted (tree-counts (held len store))) tree.Changed
 
+-- What judging the held sheet answers: its counts where it stands.
 unfoldable pub held-sheet : ℕ → List ℕ → HeldSheet
 held-sheet len store = cond (sheet-stands len store) (sheet.Counted (sheet-counts (held len store))) sheet.Changed

@@ -7,8 +7,8 @@ use crate::state::State;
 use evaluation::evaluate::evaluate;
 ghost use mathlib.Core.Path.{_≡_};
 ghost use Rattle.monitor.specs.Question.{Answerable, report-of, reply-of, lowers-left, uppers-left, marks-left};
+ghost use Rattle.monitor.specs.Question.{held-tree-bytes, held-sheet-bytes};
 ghost use Rattle.monitor.specs.Promise.{Promises-kept};
-ghost use Rattle.monitor.specs.Standing.{held};
 ghost use Rattle.evaluation.specs.Report.{lowers-after, uppers-after, marks-after};
 
 // The root's ends in units, each with its mark, and the number of basic events (E).
@@ -20,6 +20,7 @@ pub struct Report {
     pub events: usize,
 }
 
+// Answered, or refused.
 pub enum Outcome {
     Answered(Report),
     Refused(Refusal),
@@ -44,9 +45,12 @@ fn answered(
 ) -> Report
     requires { ⌜ Answerable (now tree) (now sheet) sizes k n (now lower) (now upper) (now marks) ⌝ }
     ensures { λ r. ⌜ r ≡ report-of (now (tree .entry)) (now (sheet .entry)) k n ⌝ }
-    ensures { λ _. ⌜ now (lower .exit) ≡ lowers-after (now (tree .entry)) (now (sheet .entry)) k n (now (lower .entry)) ⌝ }
-    ensures { λ _. ⌜ now (upper .exit) ≡ uppers-after (now (tree .entry)) (now (sheet .entry)) k n (now (upper .entry)) ⌝ }
-    ensures { λ _. ⌜ now (marks .exit) ≡ marks-after (now (tree .entry)) (now (sheet .entry)) k n (now (marks .entry)) ⌝ }
+    ensures { λ _. ⌜ now (lower .exit)
+        ≡ lowers-after (now (tree .entry)) (now (sheet .entry)) k n (now (lower .entry)) ⌝ }
+    ensures { λ _. ⌜ now (upper .exit)
+        ≡ uppers-after (now (tree .entry)) (now (sheet .entry)) k n (now (upper .entry)) ⌝ }
+    ensures { λ _. ⌜ now (marks .exit)
+        ≡ marks-after (now (tree .entry)) (now (sheet .entry)) k n (now (marks .entry)) ⌝ }
 {
     let nodes = sizes.nodes;
     let events = sizes.events;
@@ -62,7 +66,7 @@ fn answered(
     }
 }
 
-// Questions level k of n.
+// Questions level k of n. The last promise is demand 3, of the answer and of every node's place in the slices.
 pub fn question(
     state: State,
     tree_store: &[u8],
@@ -73,11 +77,17 @@ pub fn question(
     upper: &mut [u32],
     marks: &mut [u8],
 ) -> Reply
-    ensures { λ r. ⌜ r ≡ reply-of state (now («tree_store» .entry)) (now («sheet_store» .entry)) k n (now (lower .entry)) (now (upper .entry)) (now (marks .entry)) ⌝ }
-    ensures { λ _. ⌜ now (lower .exit) ≡ lowers-left state (now («tree_store» .entry)) (now («sheet_store» .entry)) k n (now (lower .entry)) (now (upper .entry)) (now (marks .entry)) ⌝ }
-    ensures { λ _. ⌜ now (upper .exit) ≡ uppers-left state (now («tree_store» .entry)) (now («sheet_store» .entry)) k n (now (lower .entry)) (now (upper .entry)) (now (marks .entry)) ⌝ }
-    ensures { λ _. ⌜ now (marks .exit) ≡ marks-left state (now («tree_store» .entry)) (now («sheet_store» .entry)) k n (now (lower .entry)) (now (upper .entry)) (now (marks .entry)) ⌝ }
-    ensures { λ r. ⌜ Promises-kept (r .outcome) (held (state .«tree_len») (now («tree_store» .entry))) (held (state .«sheet_len») (now («sheet_store» .entry))) k n (now (lower .exit)) (now (upper .exit)) (now (marks .exit)) ⌝ }
+    ensures { λ r. ⌜ r ≡ reply-of state (now («tree_store» .entry)) (now («sheet_store» .entry)) k n
+        (now (lower .entry)) (now (upper .entry)) (now (marks .entry)) ⌝ }
+    ensures { λ _. ⌜ now (lower .exit) ≡ lowers-left state (now («tree_store» .entry)) (now («sheet_store» .entry)) k n
+        (now (lower .entry)) (now (upper .entry)) (now (marks .entry)) ⌝ }
+    ensures { λ _. ⌜ now (upper .exit) ≡ uppers-left state (now («tree_store» .entry)) (now («sheet_store» .entry)) k n
+        (now (lower .entry)) (now (upper .entry)) (now (marks .entry)) ⌝ }
+    ensures { λ _. ⌜ now (marks .exit) ≡ marks-left state (now («tree_store» .entry)) (now («sheet_store» .entry)) k n
+        (now (lower .entry)) (now (upper .entry)) (now (marks .entry)) ⌝ }
+    ensures { λ r. ⌜ Promises-kept (r .outcome) (held-tree-bytes state (now («tree_store» .entry)))
+        (held-sheet-bytes state (now («sheet_store» .entry))) k n
+        (now (lower .exit)) (now (upper .exit)) (now (marks .exit)) ⌝ }
 {
     let standing = judge(state, tree_store, sheet_store, k, n);
     match standing {

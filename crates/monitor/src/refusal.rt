@@ -4,6 +4,7 @@ use tree_file::refusal::Refusal as TreeRefusal;
 ghost use mathlib.Core.Path.{_≡_};
 ghost use Rattle.monitor.specs.Refusals.{number-of, place-of};
 
+// Document 01's refusals, 1 to 13 and 20 to 25.
 pub enum Refusal {
     // The tree file handed in is at fault.
     Tree(TreeRefusal),

@@ -2,12 +2,12 @@
 -- Assumes nothing.
 use Prim.Native.Nat.{_-_}
 use mathlib.Core.Path.{_≡_}
-use native.Mathlib.Omega.{arith}
 use lib.ListN.{length}
 use denote.Ref.{now}
 use Rattle.evaluation.proofs.Filling.{Filled, filled-start, filled-stored, filled-next}
-use Rattle.evaluation.proofs.Filling.{lower-length, upper-length, marks-length, lowers-filled, uppers-filled}
-use Rattle.evaluation.proofs.Filling.{marks-filled}
+use Rattle.evaluation.proofs.Filling.{lower-length, upper-length, marks-length}
+use Rattle.evaluation.proofs.Filling.{lower-place, upper-place, marks-place}
+use Rattle.evaluation.proofs.Filling.{lowers-filled, uppers-filled, marks-filled}
 use borrow.Author.Needs.{needs}
 use Rattle.evaluation.proofs.evaluate.evaluate.Statement.{statement}
 use Rattle.evaluation.proofs.evaluate.evaluate.Tie as tie
@@ -19,67 +19,57 @@ Inv-loop tree sheet nodes k n lower₀ upper₀ marks₀ i₀ lower upper marks 
 abbrev μ-loop : tie.MeasureT-loop
 μ-loop tree sheet nodes k n lower₀ upper₀ marks₀ i₀ lower upper marks i = nodes - i
 
--- what holds wherever the loop's test is reached: the invariant and the lengths
+-- wherever the loop's test is reached, the slices have the lengths that they had at the call
 module _ (a : tie.At-loop Inv-loop μ-loop) where
   lower-same : length (a .loop .lower) ≡ length (now (a .before .before .before .before .before .before .args .lower))
-  lower-same =
-      let start = a .before .before .before .before .before .before in
-      lower-length (now (start .args .tree)) (now (start .args .sheet)) (start .args .k) (start .args .n) (start .args .nodes)
-      (now (start .args .lower)) (now (start .args .upper)) (now (start .args .marks)) (start .pre .2) (start .pre .3)
-      (start .pre .4) (a .loop .lower) (a .loop .upper) (a .loop .marks) (a .loop .i) (a .loop .inv)
+  lower-same = lower-length (a .before .before .before .before .before .before .pre) (a .loop .inv)
 
   upper-same : length (a .loop .upper) ≡ length (now (a .before .before .before .before .before .before .args .upper))
-  upper-same =
-      let start = a .before .before .before .before .before .before in
-      upper-length (now (start .args .tree)) (now (start .args .sheet)) (start .args .k) (start .args .n) (start .args .nodes)
-      (now (start .args .lower)) (now (start .args .upper)) (now (start .args .marks)) (start .pre .2) (start .pre .3)
-      (start .pre .4) (a .loop .lower) (a .loop .upper) (a .loop .marks) (a .loop .i) (a .loop .inv)
+  upper-same = upper-length (a .before .before .before .before .before .before .pre) (a .loop .inv)
 
   marks-same : length (a .loop .marks) ≡ length (now (a .before .before .before .before .before .before .args .marks))
-  marks-same =
-      let start = a .before .before .before .before .before .before in
-      marks-length (now (start .args .tree)) (now (start .args .sheet)) (start .args .k) (start .args .n) (start .args .nodes)
-      (now (start .args .lower)) (now (start .args .upper)) (now (start .args .marks)) (start .pre .2) (start .pre .3)
-      (start .pre .4) (a .loop .lower) (a .loop .upper) (a .loop .marks) (a .loop .i) (a .loop .inv)
+  marks-same = marks-length (a .before .before .before .before .before .before .pre) (a .loop .inv)
 
 loop-holds : tie.Need-loop-holds Inv-loop μ-loop
 loop-holds c = search (needs, filled-start)
 
 enclosure-at-requires : tie.Need-enclosure-at-requires Inv-loop μ-loop
 enclosure-at-requires c κs =
-    let a = c .before .before .before .before in
-    let start = a .before .before .before .before .before .before in (
-      start .pre .1,
-      c .before .before .before .loop-test .taken,
-      start .pre .0,
-      filled-stored (now (start .args .tree)) (now (start .args .sheet)) (start .args .k) (start .args .n) (start .args .nodes)
-          (now (start .args .lower)) (now (start .args .upper)) (now (start .args .marks)) (start .pre .2) (start .pre .3)
-          (start .pre .4) (a .loop .lower) (a .loop .upper) (a .loop .marks) (a .loop .i) (a .loop .inv),
-    )
+    let test = c .before .before .before in
+    let asked = test .before .before .before .before .before .before .before .pre in
+    record {
+      pair = asked .pair;
+      nodes-is = asked .nodes-is;
+      inside = test .loop-test .taken;
+      stored = filled-stored asked (test .before .loop .inv);
+    }
 
 mul-lower : tie.Need-mul-lower Inv-loop μ-loop
 mul-lower c = search needs
 
 slice-write-lower : tie.Need-slice-write-lower Inv-loop μ-loop
 slice-write-lower c =
-    let a = c .before .before .before .before .before in
-    omega (arith, lower-same a, c .before .before .before .before .loop-test .taken, a .before .before .before .before .before .before .pre .2)
+    let test = c .before .before .before .before in
+    let asked = test .before .before .before .before .before .before .before .pre in
+    lower-place asked (test .before .loop .inv) (test .loop-test .taken)
 
 mul-upper : tie.Need-mul-upper Inv-loop μ-loop
 mul-upper c = search needs
 
 slice-write-upper : tie.Need-slice-write-upper Inv-loop μ-loop
 slice-write-upper c =
-    let a = c .before .before .before .before .before in
-    omega (arith, upper-same a, c .before .before .before .before .loop-test .taken, a .before .before .before .before .before .before .pre .3)
+    let test = c .before .before .before .before in
+    let asked = test .before .before .before .before .before .before .before .pre in
+    upper-place asked (test .before .loop .inv) (test .loop-test .taken)
 
 mark-of-requires : tie.Need-mark-of-requires Inv-loop μ-loop
 mark-of-requires c κs = search needs
 
 slice-write-marks : tie.Need-slice-write-marks Inv-loop μ-loop
 slice-write-marks c =
-    let a = c .before .before .before .before .before .before in
-    omega (arith, marks-same a, c .before .before .before .before .before .loop-test .taken, a .before .before .before .before .before .before .pre .4)
+    let test = c .before .before .before .before .before in
+    let asked = test .before .before .before .before .before .before .before .pre in
+    marks-place asked (test .before .loop .inv) (test .loop-test .taken)
 
 add-i : tie.Need-add-i Inv-loop μ-loop
 add-i c = search needs
@@ -101,22 +91,10 @@ same-length-3 c = marks-same (c .before)
 
 returns : tie.Need-returns Inv-loop μ-loop
 returns c =
-    let a = c .before in
-    let start = a .before .before .before .before .before .before in (
-      lowers-filled (now (start .args .tree)) (now (start .args .sheet)) (start .args .k) (start .args .n) (start .args .nodes)
-          (now (start .args .lower)) (now (start .args .upper)) (now (start .args .marks)) (start .pre .2) (start .pre .3)
-          (start .pre .4) (a .loop .lower) (a .loop .upper) (a .loop .marks) (a .loop .i) (a .loop .inv) (start .pre .1)
-          (c .loop-test .left),
-      (
-        uppers-filled (now (start .args .tree)) (now (start .args .sheet)) (start .args .k) (start .args .n) (start .args .nodes)
-            (now (start .args .lower)) (now (start .args .upper)) (now (start .args .marks)) (start .pre .2) (start .pre .3)
-            (start .pre .4) (a .loop .lower) (a .loop .upper) (a .loop .marks) (a .loop .i) (a .loop .inv) (start .pre .1)
-            (c .loop-test .left),
-        marks-filled (now (start .args .tree)) (now (start .args .sheet)) (start .args .k) (start .args .n) (start .args .nodes)
-            (now (start .args .lower)) (now (start .args .upper)) (now (start .args .marks)) (start .pre .2) (start .pre .3)
-            (start .pre .4) (a .loop .lower) (a .loop .upper) (a .loop .marks) (a .loop .i) (a .loop .inv) (start .pre .1)
-            (c .loop-test .left),
-      ),
+    let asked = c .before .before .before .before .before .before .before .pre in
+    let filled = c .before .loop .inv in (
+      lowers-filled asked filled (c .loop-test .left),
+      (uppers-filled asked filled (c .loop-test .left), marks-filled asked filled (c .loop-test .left)),
     )
 
 pub evaluate-spec : {M : Type 1} → statement M

@@ -7,7 +7,8 @@ use Rattle.evaluation.proofs.gate.gate_end.Statement.{statement}
 use Rattle.evaluation.proofs.gate.gate_end.Tie as tie
 
 abbrev Inv-loop : tie.InvT-loop
-Inv-loop links inputs any upper values marks upward running₀ j₀ running j = Running any upper links values marks inputs running j
+Inv-loop links inputs any upper values marks upward running₀ j₀ running j =
+    Running any upper links values marks inputs running j
 
 abbrev μ-loop : tie.MeasureT-loop
 μ-loop links inputs any upper values marks upward running₀ j₀ running j = inputs - j

@@ -10,8 +10,9 @@ complement-requires c κs = search needs
 
 returns : tie.Need-returns
 returns c =
-    let s = c .before .before in
-    (c .complement .ensures .0 ∙ seen-any (s .args .any) (c .before .if1 .taken) (s .args .x), c .complement .ensures .1)
+    let args = c .before .before .args in
+    let missing = c .complement .ensures in
+    (missing .0 ∙ seen-any (args .any) (c .before .if1 .taken) (args .x), missing .1)
 
 returns-2 : tie.Need-returns-2
 returns-2 c = (seen-all (c .before .args .any) (c .if1 .left) (c .before .args .x), c .before .pre)

@@ -1,6 +1,5 @@
 -- `evaluation::node::enclosure_at` meets its contract. Assumes nothing.
 use Rattle.evaluation.proofs.NodeLaws.{record-asked, cut-asked, cut-answers, gate-asked, gate-answers}
-use denote.Ref.{now}
 use borrow.Author.Needs.{needs}
 use Rattle.evaluation.proofs.node.enclosure_at.Statement.{statement}
 use Rattle.evaluation.proofs.node.enclosure_at.Tie as tie
@@ -14,10 +13,8 @@ field-a-at-requires c κs = search (needs, record-asked)
 cut-at-requires : tie.Need-cut-at-requires
 cut-at-requires c κs =
     let read = c .before .before in
-    let start = read .before .before .before .before .before .before in
-    cut-asked (now (start .args .tree)) (now (start .args .sheet)) (start .args .k) (start .args .n) (start .pre .2)
-    (start .args .nodes) (start .args .i) (start .pre .0) (start .pre .1) (read .kind-at .result) (read .kind-at .ensures)
-    (c .before .if1 .taken) (c .field-a-at .result) (c .field-a-at .ensures)
+    cut-asked (read .before .before .before .before .before .before .pre) (read .kind-at .ensures)
+    (c .before .if1 .taken) (c .field-a-at .ensures)
 
 returns : tie.Need-returns
 returns c = search (needs, cut-answers)

@@ -1,5 +1,4 @@
 -- `evaluation::node::gate_enclosure` meets its contract. Assumes nothing.
-use denote.Ref.{now}
 use Rattle.evaluation.proofs.GateParts.{lower-asked, upper-asked, enclosure-made}
 use borrow.Author.Needs.{needs}
 use Rattle.evaluation.proofs.node.gate_enclosure.Statement.{statement}
@@ -34,17 +33,15 @@ part-links-end c = search needs
 
 gate-end-requires : tie.Need-gate-end-requires
 gate-end-requires c κs =
-    let args = c .before .before .before .before .before .before .before .args in
-    lower-asked (now (args .tree)) (args .nodes) (args .i) (args .kind) (now (args .lower)) (now (args .upper))
-    (now (args .marks)) (c .before .before .before .before .before .before .before .pre) (c .before .before .field-a-at .result) (c .before .before .field-a-at .ensures)
-    (c .before .input-count-at .result) (c .before .input-count-at .ensures)
+    let read = c .before .before in
+    lower-asked (read .before .before .before .before .before .pre) (read .field-a-at .ensures)
+    (c .before .input-count-at .ensures)
 
 gate-end-requires-2 : tie.Need-gate-end-requires-2
 gate-end-requires-2 c κs =
-    let args = c .before .before .before .before .before .before .before .before .args in
-    upper-asked (now (args .tree)) (args .nodes) (args .i) (args .kind) (now (args .lower)) (now (args .upper))
-    (now (args .marks)) (c .before .before .before .before .before .before .before .before .pre) (c .before .before .before .field-a-at .result) (c .before .before .before .field-a-at .ensures)
-    (c .before .before .input-count-at .result) (c .before .before .input-count-at .ensures)
+    let read = c .before .before .before in
+    upper-asked (read .before .before .before .before .before .pre) (read .field-a-at .ensures)
+    (c .before .before .input-count-at .ensures)
 
 cast-t20 : tie.Need-cast-t20
 cast-t20 c = search needs
@@ -54,11 +51,11 @@ cast-t21 c = search needs
 
 returns : tie.Need-returns
 returns c =
-    let args = c .before .before .before .before .before .before .before .before .before .before .before .args in
-    enclosure-made (now (args .tree)) (args .nodes) (args .i) (args .kind) (now (args .lower)) (now (args .upper))
-    (now (args .marks)) (c .before .before .before .before .before .before .before .before .before .before .before .pre) (c .before .before .before .before .before .before .field-a-at .result) (c .before .before .before .before .before .before .field-a-at .ensures)
-    (c .before .before .before .before .before .input-count-at .result) (c .before .before .before .before .before .input-count-at .ensures)
-    (c .before .before .before .gate-end .result) (c .before .before .gate-end2 .result) (c .before .before .before .gate-end .ensures .0) (c .before .before .gate-end2 .ensures .0)
+    let folded = c .before .before in
+    let read = folded .before .before .before .before in
+    enclosure-made (read .before .before .before .before .before .pre) (read .field-a-at .ensures)
+    (folded .before .before .before .input-count-at .ensures) (folded .before .gate-end .ensures .0)
+    (folded .gate-end2 .ensures .0)
 
 pub gate-enclosure-spec : {M : Type 1} → statement M
 gate-enclosure-spec =

@@ -23,9 +23,9 @@ wide-requires c κs = search needs
 
 returns : tie.Need-returns
 returns c =
-    let start = c .before .before .before .before .before .before in (
-      ap₂ (λ (v : ℕ) (m : Bool). record { value = v; exact = m }) (c .wide .ensures) (c .before .before .is-marked .ensures),
-      record { at-most = rw (c .wide .ensures) (start .pre .2) },
+    let exact = c .before .before in (
+      ap₂ (λ (v : ℕ) (m : Bool). record { value = v; exact = m }) (c .wide .ensures) (exact .is-marked .ensures),
+      record { at-most = rw (c .wide .ensures) (exact .before .before .before .before .pre .2) },
     )
 
 pub end-at-spec : {M : Type 1} → statement M

@@ -8,7 +8,15 @@ use Rattle.monitor.proofs.question.answered.Statement.{statement}
 use Rattle.monitor.proofs.question.answered.Tie as tie
 
 evaluate-requires : tie.Need-evaluate-requires
-evaluate-requires c κs = search needs
+evaluate-requires c κs =
+    let asked = c .before .before .before .before .before .before .before .before .pre in
+    record {
+      pair = asked .pair;
+      nodes-is = asked .nodes-is;
+      lower-long = asked .lower-long;
+      upper-long = asked .upper-long;
+      marks-long = asked .marks-long;
+    }
 
 sub-root : tie.Need-sub-root
 sub-root c = search needs
@@ -39,15 +47,16 @@ same-length-3 c = search needs
 
 returns : tie.Need-returns
 returns c =
-    let start = c .before .before .before .before .before .before .before .before .before .before .before .before .before .before .before .before .before .before in
+    let evaluated = c .before .before .before .before .before .before .before .before .before in
+    let start = evaluated .before .before .before .before .before .before .before .before .before in
     let args = start .args in
     let asked = start .pre in
-    let after = c .before .before .before .before .before .before .before .before .before .evaluate .ensures in
+    let after = evaluated .evaluate .ensures in
     let longer = le-of-eq (sym (asked .nodes-is)) in (
       report-read (now (args .tree)) (now (args .sheet)) (args .k) (args .n) (asked .pair) (now (args .lower))
-          (now (args .upper)) (now (args .marks)) (le-trans longer (asked .lower-long)) (le-trans longer (asked .upper-long))
-          (le-trans longer (asked .marks-long)) _ _ _ (after .0) (after .1 .0) (after .1 .1) (args .sizes) (asked .nodes-is)
-          (asked .events-is),
+          (now (args .upper)) (now (args .marks)) (le-trans longer (asked .lower-long))
+          (le-trans longer (asked .upper-long)) (le-trans longer (asked .marks-long)) _ _ _ (after .0) (after .1 .0)
+          (after .1 .1) (args .sizes) (asked .nodes-is) (asked .events-is),
       after,
     )
 
