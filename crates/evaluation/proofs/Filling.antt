@@ -57,15 +57,15 @@ module _ {tree sheet : List ℕ} {nodes k n : ℕ} {lower₀ upper₀ marks₀ :
   pub marks-length : length marks ≡ length marks₀
   marks-length = ap length (f .marks-is) ∙ length-written _ i marks₀ (le-trans (f .within) (asked .marks-long))
 
-  -- node i has its place in each slice
+  -- node i has its place in the slice of lower ends
   pub lower-place : i < nodes → i < length lower
   lower-place l = omega (arith, lower-length, asked .lower-long)
 
-  -- of upper ends
+  -- in that of upper ends
   pub upper-place : i < nodes → i < length upper
   upper-place l = omega (arith, upper-length, asked .upper-long)
 
-  -- of marks
+  -- and in that of marks
   pub marks-place : i < nodes → i < length marks
   marks-place l = omega (arith, marks-length, asked .marks-long)
 

@@ -94,27 +94,24 @@ module _ (tree sheet : List ℕ) (k n : ℕ) (pair : Pair tree sheet k n) where
   pub event-in-sheet : (i : ℕ) → i < node-count tree → kind tree i ≡ 0 → field-a tree i < event-count sheet
   event-in-sheet i l z = rw (pair .same-events) (event-number-below tree (pair .tree-good) i l z)
 
-  -- the node's end by the ends of the nodes before it
-  by-earlier : (w : Direction) (i : ℕ) → i < node-count tree → (store : ℕ → End)
-      → ((m : ℕ) → m < i → store m ≡ node-end w tree sheet k n m)
+  -- the end of a basic event or of a gate by the ends of the nodes before it; a gate has an input, so b − 1 is right
+  by-earlier : (w : Direction) (i : ℕ) → i < node-count tree → (basic : Bool) → eqb (kind tree i) 0 ≡ basic
+      → (store : ℕ → End) → ((m : ℕ) → m < i → store m ≡ node-end w tree sheet k n m)
       → node-end w tree sheet k n i
-      ≡ end-by-node billion w (λ e. end-of w (event-cut sheet k n e)) store (link tree) (node-of tree i)
-  unfolding node-end
-  by-earlier w i l store h =
+      ≡ end-by-node billion w (λ e. end-of w (event-cut sheet k n e)) store (link tree)
+      (cond basic (event (field-a tree i)) (joint (gate-kind (kind tree i)) (field-a tree i) (field-b tree i - 1)))
+  unfolding node-end node-of
+  by-earlier w i l basic z store h =
       end-by-earlier (table-of tree) (table-links-below tree (pair .tree-good)) billion w
       (λ e. end-of w (event-cut sheet k n e)) store i l h
+      ∙ ap (λ (b : Bool). end-by-node billion w (λ e. end-of w (event-cut sheet k n e)) store (link tree)
+      (cond b (event (field-a tree i)) (joint (gate-kind (kind tree i)) (field-a tree i) (field-b tree i - 1)))) z
 
   -- a basic event's ends are those of its cut
   pub event-end : (w : Direction) (i : ℕ) → i < node-count tree → kind tree i ≡ 0
       → cut-end billion w (end-of w (event-cut sheet k n (field-a tree i))) ≡ node-end w tree sheet k n i
-  unfolding node-of
   event-end w i l z =
-      sym
-      (by-earlier w i l (node-end w tree sheet k n) (λ m h. refl)
-      ∙ ap (λ (b : Bool). end-by-node billion w (λ e. end-of w (event-cut sheet k n e)) (node-end w tree sheet k n)
-      (link tree)
-      (cond b (event (field-a tree i)) (joint (gate-kind (kind tree i)) (field-a tree i) (field-b tree i - 1))))
-      (eq-eqb (kind tree i) 0 z))
+      sym (by-earlier w i l true (eq-eqb (kind tree i) 0 z) (node-end w tree sheet k n) (λ m h. refl))
 
   module _ (i : ℕ) (l : i < node-count tree) (gate : 1 ≤ kind tree i) where
     -- the part of the tree file that starts at the gate's first link
@@ -126,7 +123,6 @@ module _ (tree sheet : List ℕ) (k n : ℕ) (pair : Pair tree sheet k n) where
         → ((m : ℕ) → m < i → stored-end upper values marks m ≡ node-end (direction upper) tree sheet k n m)
         → fold-end (eqb (kind tree i) 2) upper part values marks (field-b tree i)
         ≡ node-end (direction upper) tree sheet k n i
-    unfolding node-of
     gate-end-is upper values marks h =
         let store = stored-end upper values marks in
         let w = direction upper in
@@ -134,10 +130,7 @@ module _ (tree sheet : List ℕ) (k n : ℕ) (pair : Pair tree sheet k n) where
         let least : 1 ≤ field-b tree i = pair .tree-good .gate-least i l gate in
         let inputs : suc (field-b tree i - 1) ≡ field-b tree i = omega arith in
         sym
-        (by-earlier w i l store h
-        ∙ ap (λ (b : Bool). end-by-node billion w (λ e. end-of w (event-cut sheet k n e)) store (link tree)
-        (cond b (event (field-a tree i)) (joint (gate-kind (kind tree i)) (field-a tree i) (field-b tree i - 1))))
-        (ne-eqb (kind tree i) 0 (λ z. omega arith))
+        (by-earlier w i l false (ne-eqb (kind tree i) 0 (λ z. omega arith)) store h
         ∙ ap (λ (g : GateKind). seen g billion
         (folded billion (turned g w) (as-seen g) (field-a tree i) (suc (field-b tree i - 1))))
         (gate-kind-as (kind tree i) gate (pair .tree-good .kinds i l))

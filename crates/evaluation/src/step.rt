@@ -3,6 +3,7 @@ use opinion_sheet::cut::rounded_up;
 ghost use mathlib.Core.Path.{_≡_};
 ghost use Rattle.evaluation.specs.Ends.{InUnits, stepped, complemented};
 
+// U: 1, in billionths.
 const UNIT: u64 = 1_000_000_000;
 
 // An end of a node's interval in units, with the mark that says whether it is exact.
