@@ -1,6 +1,7 @@
 -- `monitor::question::answered` meets its contract: the root's place holds the report. Assumes nothing.
 use mathlib.Core.Path.{sym}
 use native.Mathlib.Nat.{le-of-eq, le-trans}
+use native.Mathlib.Omega.{arith}
 use denote.Ref.{now}
 use Rattle.monitor.proofs.Answering.{report-read}
 use borrow.Author.Needs.{needs}
@@ -11,7 +12,16 @@ evaluate-requires : tie.Need-evaluate-requires
 evaluate-requires c κs =
     let asked = c .before .before .before .before .before .before .before .before .pre in
     record {
-      pair = asked .pair;
+      pair = record {
+        tree-good = asked .pair .tree-good;
+        sheet-good = asked .pair .sheet-good;
+        same-events = asked .pair .same-events;
+        level = record {
+          n-positive = asked .pair .level .n-positive;
+          n-bounded = asked .pair .level .n-bounded;
+          k-n = omega (arith, asked .pair .level .k-n);
+        };
+      };
       nodes-is = asked .nodes-is;
       lower-long = asked .lower-long;
       upper-long = asked .upper-long;
