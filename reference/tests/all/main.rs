@@ -1,6 +1,7 @@
 //! The second opinion's own tests.
 
 mod desk;
+mod altered;
 mod whole;
 mod exact;
 mod table;

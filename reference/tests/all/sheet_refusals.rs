@@ -1,7 +1,7 @@
 //! Refusals 1 to 7 and 10 to 12 of an opinion sheet, each with its place; the desk sees that nothing changes.
 
+use crate::altered::{with_16, with_32, with_byte};
 use crate::desk::{refusal, Desk};
-use reference::bytes::{write_16, write_32};
 use reference::describe::{same, sheet_bytes, Entry};
 use reference::end::U;
 
@@ -14,21 +14,6 @@ fn check(file: &[u8], number: u32, place: usize) {
     let mut desk = Desk::roomy();
     assert_eq!(desk.sheet(&sample()), Ok(()));
     assert_eq!(desk.sheet(file), refusal(number, place));
-}
-
-fn with_byte(mut file: Vec<u8>, place: usize, byte: u8) -> Vec<u8> {
-    file[place] = byte;
-    file
-}
-
-fn with_16(mut file: Vec<u8>, place: usize, value: u16) -> Vec<u8> {
-    write_16(&mut file, place, value);
-    file
-}
-
-fn with_32(mut file: Vec<u8>, place: usize, value: u32) -> Vec<u8> {
-    write_32(&mut file, place, value);
-    file
 }
 
 #[test]

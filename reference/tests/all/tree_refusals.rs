@@ -1,7 +1,7 @@
 //! Refusals 1 to 9 of a tree file, each with its place; the desk sees that nothing changes.
 
+use crate::altered::{with_16, with_byte};
 use crate::desk::{refusal, Desk};
-use reference::bytes::write_16;
 use reference::describe::{tree_bytes, Node};
 
 /// One event: 14 bytes.
@@ -24,16 +24,6 @@ fn check(file: &[u8], number: u32, place: usize) {
     let mut desk = Desk::roomy();
     assert_eq!(desk.tree(&chain()), Ok(()));
     assert_eq!(desk.tree(file), refusal(number, place));
-}
-
-fn with_byte(mut file: Vec<u8>, place: usize, byte: u8) -> Vec<u8> {
-    file[place] = byte;
-    file
-}
-
-fn with_16(mut file: Vec<u8>, place: usize, value: u16) -> Vec<u8> {
-    write_16(&mut file, place, value);
-    file
 }
 
 #[test]
