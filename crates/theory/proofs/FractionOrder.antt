@@ -1,11 +1,11 @@
 -- The order of fractions by crosswise products: transitive over a denominator above 0, and how products, complements
 -- and equal fractions stand in it. Assumes nothing.
 use Prim.Native.Nat.{ℕ, _+_, _-_, _*_, _≤_, _<_}
-use mathlib.Core.Path.{_≡_, sym, ap, ap₂}
-use native.Mathlib.Nat.{le-of-eq, mul-le-mul, mul-le-mul-right, le-of-mul-le-mul-right, sub-add-cancel, mul-one}
+use mathlib.Core.Path.{_≡_, ap, ap₂}
+use native.Mathlib.Nat.{mul-le-mul, mul-le-mul-right, le-of-mul-le-mul-right, sub-add-cancel, mul-one}
 use native.Mathlib.Nat.{one-mul}
 use native.Mathlib.Omega.{arith}
-use Rattle.theory.specs.Fraction.{Fraction, Probability, _≼_, _≈_, one, _⊗_, _⊖_, complement}
+use Rattle.theory.specs.Fraction.{Fraction, Probability, _≼_, one, _⊗_, _⊖_, complement}
 
 -- what is at most a fraction is at most what that is at most
 pub at-most-trans : (f g h : Fraction) → 0 < g .den → f ≼ g → g ≼ h → f ≼ h
@@ -15,14 +15,6 @@ at-most-trans f g h pos l r =
 -- a fraction is at most itself
 pub at-most-refl : (f : Fraction) → f ≼ f
 at-most-refl f = omega arith
-
--- it is at most what it equals
-pub at-most-of-equal : (f g : Fraction) → f ≈ g → f ≼ g
-at-most-of-equal f g h = le-of-eq h
-
--- equal fractions are so either way round
-pub equal-sym : (f g : Fraction) → f ≈ g → g ≈ f
-equal-sym f g h = sym h
 
 -- a product rises with both its factors
 pub product-monotone : (f g h k : Fraction) → f ≼ g → h ≼ k → f ⊗ h ≼ g ⊗ k

@@ -1,7 +1,7 @@
 -- What follows from the rules, and that a file which keeps them is accepted.
 -- Assumes nothing.
 use Prim.Native.Nat.{ℕ, suc, _+_, _≤_, _<_}
-use mathlib.Core.Path.{_≡_, refl, sym, subst}
+use mathlib.Core.Path.{_≡_, refl, sym}
 use mathlib.Core.Bool.{Bool, true, false}
 use mathlib.Core.List.{List}
 use native.Mathlib.Nat.{le-of-eq}
@@ -14,7 +14,7 @@ use Rattle.tree_file.specs.HeaderRules.{header-fault}
 use Rattle.tree_file.specs.RecordRules.{record-fault, records-fault, sum-fault}
 use Rattle.tree_file.specs.LinkRules.{gate-fault, link-fault, links-fault}
 use Rattle.tree_file.specs.Judged.{counts-of, judged}
-use Rattle.tree_file.specs.Clauses.{HasLink, HasRecord}
+use Rattle.tree_file.specs.Clauses.{HasRecord}
 use Rattle.tree_file.specs.WellFormed.{WellFormed}
 use Rattle.tree_file.specs.declared.refusal.FirstFault.the-variants.{Absent}
 use Rattle.tree_file.specs.declared.judgement.Judgement.the-variants.{Accepted}
@@ -25,12 +25,9 @@ use Rattle.tree_file.proofs.Runs.{gate-run, links-run, records-run}
 use Rattle.tree_file.proofs.TallyLaws.{event-below, inputs-monotone}
 
 module _ (file : List ℕ) (w : WellFormed file) where
-  -- What the readers of a record and of a link ask.
+  -- What the readers of a record ask.
   pub record-within : (i : ℕ) → i < node-count file → HasRecord file i
   record-within i lt = omega (arith, w .length-value)
-
-  pub link-within : (j : ℕ) → j < link-count file → HasLink file j
-  link-within j lt = omega (arith, w .length-value)
 
   -- A gate's links end within the N − 1 links.
   pub links-end : (i : ℕ) → i < node-count file → 1 ≤ kind file i → field-a file i + field-b file i ≤ link-count file
@@ -107,13 +104,6 @@ module _ (file : List ℕ) (w : WellFormed file) where
   unfolding judged
   well-formed-accepted = rw (header-free, records-free, sum-free, links-free)
 
-  -- The gate of a link; each link names a node below the root, which is node N − 1.
+  -- The gate of a link.
   pub link-owner : (j : ℕ) → j < link-count file → Owner file (node-count file) j
   link-owner j lt = owner file (node-count file) j records-free (rw (w .all-inputs) lt)
-
-  pub link-below-root : (j : ℕ) → j < link-count file → link file j < link-count file
-  link-below-root j lt =
-      let o = link-owner j lt in
-      let below = w .below (o .gate) (o .input) (o .gate-below) (o .input-below) in
-      let at-gate : link file j < o .gate = subst (λ (n : ℕ). link file n < o .gate) (o .position) below in
-      omega (arith, o .gate-below)
