@@ -1,0 +1,57 @@
+-- `printer::print::print_levels` meets its contract. Assumes nothing.
+use borrow.Author.Needs.{needs}
+use Rattle.printer.proofs.Finishing.{text-inside, text-most, front-counted, too-short-answer, too-short-buffer}
+use Rattle.printer.proofs.Finishing.{front-fits, complete-answer, complete-buffer}
+use Rattle.printer.proofs.print.print_levels.Statement.{statement}
+use Rattle.printer.proofs.print.print_levels.Tie as tie
+use Rattle.printer.proofs.print.print_levels.Reads as reads
+use Rattle.printer.proofs.print.print_levels.Lts as lts
+use Rattle.bytes.proofs.copy.Reads as copy-reads
+use Rattle.printer.proofs.print.put_text.Reads as put-text-reads
+
+-- src/print.rt:103:34
+slice-aggregate-put-text : tie.Need-slice-aggregate-put-text
+slice-aggregate-put-text c = search needs
+
+-- src/print.rt:103:9
+put-text-requires : tie.Need-put-text-requires
+put-text-requires c κs = search needs
+
+-- src/print.rt:105:9
+returns : tie.Need-returns
+returns c =
+    (search (needs, too-short-answer), (search (needs, too-short-buffer), search (needs, text-most)))
+
+-- src/print.rt:107:17
+array-share-prefix-draft : tie.Need-array-share-prefix-draft
+array-share-prefix-draft c = search (needs, text-inside)
+
+-- src/print.rt:107:17
+slice-aggregate-copy : tie.Need-slice-aggregate-copy
+slice-aggregate-copy c = search (needs, front-counted)
+
+-- src/print.rt:107:5
+copy-requires : tie.Need-copy-requires
+copy-requires c κs = search (needs, front-fits)
+
+-- src/print.rt:97:1
+same-length : tie.Need-same-length
+same-length c = search needs
+
+-- src/print.rt:97:1
+returns-2 : tie.Need-returns-2
+returns-2 c =
+    (search (needs, complete-answer), (search (needs, complete-buffer), search (needs, text-most)))
+
+pub print-levels-spec : {M : Type 1} → statement M
+print-levels-spec =
+    tie.close
+    (tie.spec
+    slice-aggregate-put-text
+    put-text-requires
+    returns
+    array-share-prefix-draft
+    slice-aggregate-copy
+    copy-requires
+    same-length
+    returns-2)

@@ -1,0 +1,109 @@
+// The whole printed text for an input.
+use crate::input::Split;
+use crate::input::split_input;
+use crate::levels::put_levels;
+use crate::line::put_header;
+use crate::line::put_input;
+use crate::line::put_refusal;
+use monitor::hand_in::Verdict;
+use monitor::hand_in::hand_in_sheet;
+use monitor::hand_in::hand_in_tree;
+use monitor::held::Standing;
+use monitor::judge::judge;
+use monitor::state::State;
+use tree_file::format::field_at;
+ghost use mathlib.Core.Path.{_≡_};
+ghost use Prim.Native.Nat.{_≤_};
+ghost use lib.ListN.{length};
+ghost use Rattle.printer.specs.Text.{text-of, whole-text};
+ghost use Rattle.printer.specs.Held.{held-text, sheet-text};
+ghost use Rattle.printer.specs.Printed.{answer-of, buffer-after, text-length};
+ghost use Rattle.printer.specs.Put.{Put};
+
+// The text's length: the text is complete in the buffer, or the buffer is too short for it and unchanged.
+pub enum Printed {
+    Complete(usize),
+    TooShort(usize),
+}
+
+// Puts the text for the files that are held.
+fn put_held(state: State, tree_store: &[u8], sheet_store: &[u8], n: u32, draft: &mut [u8]) -> usize
+    requires { ⌜ 37119 ≤ length (now draft) ⌝ }
+    ensures { λ r. ⌜ Put (held-text state (now («tree_store» .entry)) (now («sheet_store» .entry)) n)
+        0 (now (draft .entry)) (now (draft .exit)) r ⌝ }
+{
+    let standing = judge(state, tree_store, sheet_store, n, n);
+    match standing {
+        Standing::Refused(refusal) => put_refusal(refusal, draft),
+        Standing::Ready(sizes) => {
+            let number = field_at(tree_store, 5);
+            let end = put_header(number, sizes.events, n, draft);
+            put_levels(state, tree_store, sheet_store, n, draft, end)
+        }
+    }
+}
+
+// Hands in the sheet, and puts the text.
+fn put_with_sheet(state: State, tree_store: &[u8], sheet: &[u8], n: u32, draft: &mut [u8]) -> usize
+    requires { ⌜ length (now sheet) ≤ 17434 ⌝ }
+    requires { ⌜ 37119 ≤ length (now draft) ⌝ }
+    ensures { λ r. ⌜ Put (sheet-text state (now («tree_store» .entry)) (now (sheet .entry)) n)
+        0 (now (draft .entry)) (now (draft .exit)) r ⌝ }
+{
+    let mut store = [0u8; 17434];
+    let answer = hand_in_sheet(state, sheet, &mut store);
+    let verdict = answer.verdict;
+    if let Verdict::Refused(refusal) = verdict {
+        return put_refusal(refusal, draft);
+    }
+    put_held(answer.state, tree_store, &store, n, draft)
+}
+
+// Hands in the tree, then the sheet, and puts the text.
+fn put_with_both(tree: &[u8], sheet: &[u8], n: u32, draft: &mut [u8]) -> usize
+    requires { ⌜ length (now tree) ≤ 7175 ⌝ }
+    requires { ⌜ length (now sheet) ≤ 17434 ⌝ }
+    requires { ⌜ 37119 ≤ length (now draft) ⌝ }
+    ensures { λ r. ⌜ Put (text-of (now (tree .entry)) (now (sheet .entry)) n)
+        0 (now (draft .entry)) (now (draft .exit)) r ⌝ }
+{
+    let mut store = [0u8; 7175];
+    let nothing = State {
+        tree_len: 0,
+        sheet_len: 0,
+    };
+    let answer = hand_in_tree(nothing, tree, &mut store);
+    let verdict = answer.verdict;
+    if let Verdict::Refused(refusal) = verdict {
+        return put_refusal(refusal, draft);
+    }
+    put_with_sheet(answer.state, &store, sheet, n, draft)
+}
+
+// Puts the text for an input.
+fn put_text(input: &[u8], draft: &mut [u8]) -> usize
+    requires { ⌜ 37119 ≤ length (now draft) ⌝ }
+    ensures { λ r. ⌜ Put (whole-text (now (input .entry))) 0 (now (draft .entry)) (now (draft .exit)) r ⌝ }
+{
+    let parts = split_input(input);
+    let Split::Whole(whole) = parts else {
+        return put_input(draft);
+    };
+    let end = whole.tree_end;
+    put_with_both(&input[6..end], &input[end..], whole.n, draft)
+}
+
+// Prints the levels of an input into a lent buffer. No text is longer than 37,119 bytes.
+pub fn print_levels(input: &[u8], buffer: &mut [u8]) -> Printed
+    ensures { λ r. ⌜ r ≡ answer-of (now (input .entry)) (now (buffer .entry)) ⌝ }
+    ensures { λ _. ⌜ now (buffer .exit) ≡ buffer-after (now (input .entry)) (now (buffer .entry)) ⌝ }
+    ensures { λ r. ⌜ text-length r ≤ 37119 ⌝ }
+{
+    let mut draft = [0u8; 37119];
+    let length = put_text(input, &mut draft);
+    if buffer.len() < length {
+        return Printed::TooShort(length);
+    }
+    bytes::copy(&draft[..length], buffer);
+    Printed::Complete(length)
+}
