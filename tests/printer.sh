@@ -60,7 +60,7 @@ answers() {
         shows "n of $n" "tree 1 events 3 levels $n" $((n + 2))
     done
     # The last of the limits: 1,024 nodes with 960 events, n of 1,000.
-    "$reference" case 1 33 limits >"$in"
+    "$reference" case 1 $(($("$reference" limits) - 1)) limits >"$in"
     number=$(($(od -An -tu1 -j 11 -N 1 "$in") + 256 * $(od -An -tu1 -j 12 -N 1 "$in")))
     shows "the largest pair" "tree $number events 960 levels 1000" 1002
 }

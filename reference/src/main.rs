@@ -1,6 +1,7 @@
 //! The commands; `reference` alone lists them.
 
 use reference::calls::run_calls;
+use reference::cases::limits::LIMITS;
 use reference::cases::vector_list::vector_list;
 use reference::cases::{file_name, parse_kind, write_case, Kind};
 use reference::compare::{compare, report, Cases};
@@ -21,6 +22,7 @@ reference vectors text < stream                what crates/vectors must print fo
 reference cases SEED COUNT KIND DIR|-          cases as files in DIR, or framed to standard output
     KIND: valid limits damaged changed mixed calls
 reference case SEED INDEX KIND                 one of these cases to standard output
+reference limits                               how many limits there are: so many cases of that kind have all
 reference compare SEED COUNT KIND PROGRAM [WORD...]
     such cases given to a level printer, one run each; status 1 where it prints anything else than `levels` here
 reference example NAME tree|sheet              a file of an example
@@ -81,6 +83,7 @@ fn run(words: &[&str]) -> Result<(), Failure> {
         }
         ["cases", seed, count, kind, target] => write_cases(number(seed)?, number(count)?, any_kind(kind)?, target),
         ["case", seed, index, kind] => Ok(write_out(&write_case(any_kind(kind)?, number(seed)?, number(index)?))?),
+        ["limits"] => Ok(write_out(format!("{}\n", LIMITS.len()).as_bytes())?),
         ["compare", seed, count, kind, ref program @ ..] if !program.is_empty() => {
             compare_cases(Cases { seed: number(seed)?, count: number(count)?, kind: any_kind(kind)? }, program)
         }
