@@ -196,10 +196,24 @@ changed_sources() {
     hold "sources newer and no rt: said" grep -q 'older than its sources' "$work/err"
 }
 
+# Another program in the level printer's place.
+other_program() { # COMMANDS
+    printf '#!/bin/sh\n%s\n' "$1" >"$bare/target/bin/levels"
+    run bare "$road_tree" "$road_sheet" 2
+}
+
+broken_programs() {
+    other_program ':'
+    stopped "a program that prints nothing" 3 'neither levels nor a refusal'
+    other_program 'exit 7'
+    stopped "a program that fails" 3 'ended with status 7'
+}
+
 shipped_examples
 calls
 file_names
 refusals
 bad_arguments
 building
+broken_programs
 finish
