@@ -145,13 +145,16 @@ bare_copy() {
     : >"$bare/crates.txt"
 }
 
-# A stand-in for rt: notes its call, and where it is to succeed leaves the level printer.
-stand_in() { # STATUS
+# A stand-in for rt: notes its call, and leaves the level printer with a stamp, without one, or nothing.
+stand_in() { # STATUS LEAVES
     cat >"$tools/rt" <<END
 #!/bin/sh
 echo "\$*" >>"$work/calls"
 echo "fn some::function: proved"
-if [ $1 -eq 0 ]; then mkdir -p target/bin; cp "$levels" target/bin/levels; fi
+case $2 in
+stamp) mkdir -p target/bin target/stamp; cp "$levels" target/bin/levels; echo >target/stamp/levels ;;
+program) mkdir -p target/bin; cp "$levels" target/bin/levels ;;
+esac
 echo "rt: some crate"
 exit $1
 END
@@ -161,16 +164,24 @@ END
 
 bare() { (PATH=$tools "$bare/nekbrod" "$@"); }
 
+failing_build() { # NAME
+    run bare "$road_tree" "$road_sheet" 2
+    hold "$1: status" [ "$status" -eq 3 ]
+    hold "$1: nothing printed" [ ! -s "$work/out" ]
+    hold "$1: said" grep -q "'rt check levels' failed" "$work/err"
+}
+
 building() {
     bare_copy
     run bare "$road_tree" "$road_sheet" 2
     stopped "nothing built and no rt" 3 'not built.*rt is not on the path'
-    stand_in 1
-    run bare "$road_tree" "$road_sheet" 2
-    hold "a build that fails: status" [ "$status" -eq 3 ]
-    hold "a build that fails: nothing printed" [ ! -s "$work/out" ]
-    hold "a build that fails: said" grep -q "'rt check levels' failed" "$work/err"
-    stand_in 0
+    stand_in 1 nothing
+    failing_build "a proof that fails"
+    stand_in 1 program
+    failing_build "a stored case that fails"
+    failing_build "a stored case that fails again"
+    rm -r "$bare/target"
+    stand_in 0 stamp
     run bare
     printed "a first run" "$fuel_levels"
     hold "a first run: what it does" grep -q 'proving and building' "$work/err"
@@ -202,11 +213,18 @@ other_program() { # COMMANDS
     run bare "$road_tree" "$road_sheet" 2
 }
 
+full_disk() { "$command" >/dev/full; }
+
 broken_programs() {
     other_program ':'
     stopped "a program that prints nothing" 3 'neither levels nor a refusal'
     other_program 'exit 7'
     stopped "a program that fails" 3 'ended with status 7'
+    if [ -c /dev/full ]; then
+        run full_disk
+        hold "a full disk: status" [ "$status" -eq 3 ]
+        hold "a full disk: said" grep -q 'could not be written' "$work/err"
+    fi
 }
 
 shipped_examples
