@@ -21,3 +21,4 @@ pub mod describe;
 pub mod random;
 pub mod examples;
 pub mod cases;
+pub mod compare;

@@ -1,8 +1,10 @@
 //! The commands; `reference` alone lists them.
 
 use reference::calls::run_calls;
+use reference::cases::limits::LIMITS;
 use reference::cases::vector_list::vector_list;
 use reference::cases::{file_name, parse_kind, write_case, Kind};
+use reference::compare::{compare, report, Cases};
 use reference::examples::example;
 use reference::framing::{frame, split_frames};
 use reference::levels::{print_levels, printer_input};
@@ -19,15 +21,21 @@ reference vectors stream                       the stored list of calls as bytes
 reference vectors text < stream                what crates/vectors must print for such bytes
 reference cases SEED COUNT KIND DIR|-          cases as files in DIR, or framed to standard output
     KIND: valid limits damaged changed mixed calls
+reference case SEED INDEX KIND                 one of these cases to standard output
+reference limits                               how many limits there are: so many cases of that kind have all
+reference compare SEED COUNT KIND PROGRAM [WORD...]
+    such cases given to a level printer, one run each; status 1 where it prints anything else than `levels` here
 reference example NAME tree|sheet              a file of an example
 reference example NAME input N                 the printer's input for an example with N levels
     NAME: road_trip container_seal fuel_supply
 ";
 
 /// Usage: no such command. Broken: a line of the list is no call, or the stream ends inside a case.
+/// Differs: the program printed something else.
 enum Failure {
     Usage,
     Broken,
+    Differs,
     Io(io::Error),
 }
 
@@ -42,7 +50,7 @@ fn main() -> ExitCode {
     let words: Vec<&str> = arguments.iter().map(String::as_str).collect();
     match run(&words) {
         Ok(()) => ExitCode::SUCCESS,
-        Err(Failure::Broken) => ExitCode::from(1),
+        Err(Failure::Broken | Failure::Differs) => ExitCode::from(1),
         Err(Failure::Usage) => {
             let _ = io::stderr().write_all(USAGE.as_bytes());
             ExitCode::from(2)
@@ -73,10 +81,11 @@ fn run(words: &[&str]) -> Result<(), Failure> {
             let text = stream_text(&read_in()?).ok_or(Failure::Broken)?;
             Ok(write_out(text.as_bytes())?)
         }
-        ["cases", seed, count, kind, target] => {
-            let seed = seed.parse().map_err(|_| Failure::Usage)?;
-            let count = count.parse().map_err(|_| Failure::Usage)?;
-            write_cases(seed, count, parse_kind(kind).ok_or(Failure::Usage)?, target)
+        ["cases", seed, count, kind, target] => write_cases(number(seed)?, number(count)?, any_kind(kind)?, target),
+        ["case", seed, index, kind] => Ok(write_out(&write_case(any_kind(kind)?, number(seed)?, number(index)?))?),
+        ["limits"] => Ok(write_out(format!("{}\n", LIMITS.len()).as_bytes())?),
+        ["compare", seed, count, kind, ref program @ ..] if !program.is_empty() => {
+            compare_cases(Cases { seed: number(seed)?, count: number(count)?, kind: any_kind(kind)? }, program)
         }
         ["example", name, "tree"] => Ok(write_out(&example(name).ok_or(Failure::Usage)?.tree())?),
         ["example", name, "sheet"] => Ok(write_out(&example(name).ok_or(Failure::Usage)?.sheet())?),
@@ -86,6 +95,29 @@ fn run(words: &[&str]) -> Result<(), Failure> {
             Ok(write_out(&printer_input(n, &example.tree(), &example.sheet()))?)
         }
         _ => Err(Failure::Usage),
+    }
+}
+
+fn number(word: &str) -> Result<u64, Failure> {
+    word.parse().map_err(|_| Failure::Usage)
+}
+
+fn any_kind(word: &str) -> Result<Kind, Failure> {
+    parse_kind(word).ok_or(Failure::Usage)
+}
+
+/// Lists of calls are no input of a level printer.
+fn compare_cases(cases: Cases, program: &[&str]) -> Result<(), Failure> {
+    if cases.kind == Kind::Calls {
+        return Err(Failure::Usage);
+    }
+    let outcome = compare(cases, program)?;
+    let own_name = std::env::args().next().unwrap_or_default();
+    write_out(report(cases, program, &own_name, &outcome).as_bytes())?;
+    if outcome.differences.is_empty() {
+        Ok(())
+    } else {
+        Err(Failure::Differs)
     }
 }
 

@@ -44,6 +44,10 @@ pub fn parse_kind(word: &str) -> Option<Kind> {
     KINDS.iter().find(|(name, _)| *name == word).map(|&(_, kind)| kind)
 }
 
+pub fn kind_name(kind: Kind) -> &'static str {
+    KINDS.iter().find(|(_, listed)| *listed == kind).map_or("", |&(name, _)| name)
+}
+
 /// Case `index` of a seed; it does not depend on how many are written.
 pub fn write_case(kind: Kind, seed: u64, index: u64) -> Vec<u8> {
     let random = &mut Random::for_case(seed, index);

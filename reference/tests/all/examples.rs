@@ -1,15 +1,77 @@
-//! The three examples are accepted, and have the numbers of their sources.
+//! The three examples are accepted, have the numbers of their sources, and are what the folder examples/ holds.
 
 use crate::desk::{exact, holding};
 use reference::cases::trees::count_events;
-use reference::examples::{example, NAMES};
+use reference::describe::Node;
+use reference::examples::{example, Example, NAMES};
 use reference::levels::{print_levels, printer_input};
+use std::fs;
+use std::path::PathBuf;
+
+fn folder(name: &str) -> PathBuf {
+    [env!("CARGO_MANIFEST_DIR"), "..", "examples", name].iter().collect()
+}
+
+fn levels_text(example: &Example, n: u16) -> String {
+    print_levels(&printer_input(n, &example.tree(), &example.sheet()))
+}
+
+#[test]
+fn files_are_the_examples() {
+    for name in NAMES {
+        let example = example(name).unwrap();
+        assert_eq!(fs::read(folder(name).join("tree.ftf")).unwrap(), example.tree(), "{name}");
+        assert_eq!(fs::read(folder(name).join("sheet.fts")).unwrap(), example.sheet(), "{name}");
+    }
+}
+
+/// Each file levels-N.txt of an example is what is printed for N levels, and each example has one.
+#[test]
+fn expected_levels_are_printed() {
+    for name in NAMES {
+        let mut found = 0;
+        for file in fs::read_dir(folder(name)).unwrap() {
+            let path = file.unwrap().path();
+            let stem = path.file_name().unwrap().to_str().unwrap().to_string();
+            let Some(n) = stem.strip_prefix("levels-").and_then(|rest| rest.strip_suffix(".txt")) else { continue };
+            let text = levels_text(&example(name).unwrap(), n.parse().unwrap());
+            assert_eq!(fs::read_to_string(&path).unwrap(), text, "{}", path.display());
+            found += 1;
+        }
+        assert!(found > 0, "{name}");
+    }
+}
+
+/// A row of the table of nodes in an ORIGIN text, as far as the tree decides it.
+fn node_row(nodes: &[Node], place: usize) -> String {
+    let inputs = nodes[place].inputs().iter().map(u16::to_string).collect::<Vec<_>>().join(", ");
+    match nodes[place] {
+        Node::Event => format!("| {place} | event {} | ", count_events(&nodes[..place])),
+        Node::And(_) => format!("| {place} | AND of {inputs} | "),
+        Node::Or(_) => format!("| {place} | OR of {inputs} | "),
+    }
+}
+
+#[test]
+fn origins_tell_the_tree() {
+    for name in NAMES {
+        let text = fs::read_to_string(folder(name).join("ORIGIN.md")).unwrap();
+        let Example { number, nodes, .. } = example(name).unwrap();
+        assert!(text.contains(&format!("\nTree number {number}.\n")), "{name}");
+        let mut rows = text.lines().skip_while(|line| !line.starts_with("| node |")).skip(2);
+        for place in 0..nodes.len() {
+            let row = rows.next().unwrap();
+            assert!(row.starts_with(&node_row(&nodes, place)), "{name}: {row}");
+        }
+        assert_eq!(rows.next(), Some(""), "{name}");
+    }
+}
 
 #[test]
 fn all_are_answered() {
     for name in NAMES {
         let example = example(name).unwrap();
-        let text = print_levels(&printer_input(100, &example.tree(), &example.sheet()));
+        let text = levels_text(&example, 100);
         assert_eq!(text.lines().count(), 102, "{name}: {text}");
     }
 }
@@ -17,7 +79,7 @@ fn all_are_answered() {
 #[test]
 fn road_trip_is_p8() {
     let example = example("road_trip").unwrap();
-    let text = print_levels(&printer_input(1, &example.tree(), &example.sheet()));
+    let text = levels_text(&example, 1);
     assert_eq!(text, "tree 1 events 3 levels 1\n1 368000000 = 368000000 =\n0 368000000 = 368000000 =\n");
 }
 

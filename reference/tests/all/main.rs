@@ -17,4 +17,5 @@ mod printer;
 mod call_text;
 mod vectors;
 mod generated;
+mod compare;
 mod examples;

@@ -1,0 +1,117 @@
+//! A level printer that is a program of its own, held to `print_levels` on generated cases.
+
+use crate::cases::{kind_name, write_case, Kind};
+use crate::levels::print_levels;
+use std::io::{self, Write};
+use std::process::{Command, Stdio};
+
+/// The first `count` cases of a kind and a seed.
+#[derive(Clone, Copy)]
+pub struct Cases {
+    pub seed: u64,
+    pub count: u64,
+    pub kind: Kind,
+}
+
+/// How many cases had each outcome here, and those where the program did otherwise.
+#[derive(Default)]
+pub struct Comparison {
+    pub answered: u64,
+    pub refused: u64,
+    pub input: u64,
+    pub differences: Vec<Difference>,
+}
+
+pub struct Difference {
+    pub index: u64,
+    pub expected: String,
+    pub run: Run,
+}
+
+/// What a run printed, and whether it ended with status 0.
+pub struct Run {
+    pub printed: Vec<u8>,
+    pub ended_well: bool,
+}
+
+pub fn compare(cases: Cases, program: &[&str]) -> io::Result<Comparison> {
+    let mut comparison = Comparison::default();
+    for index in 0..cases.count {
+        let case = write_case(cases.kind, cases.seed, index);
+        let expected = print_levels(&case);
+        match expected.split([' ', '\n']).next() {
+            Some("tree") => comparison.answered += 1,
+            Some("refused") => comparison.refused += 1,
+            _ => comparison.input += 1,
+        }
+        let run = run(program, &case)?;
+        if !run.ended_well || run.printed != expected.as_bytes() {
+            comparison.differences.push(Difference { index, expected, run });
+        }
+    }
+    Ok(comparison)
+}
+
+/// A pipe holds the longest case, so the program may write before it has read all, or end before it has.
+fn run(program: &[&str], case: &[u8]) -> io::Result<Run> {
+    let mut child =
+        Command::new(program[0]).args(&program[1..]).stdin(Stdio::piped()).stdout(Stdio::piped()).spawn()?;
+    if let Some(mut stdin) = child.stdin.take() {
+        match stdin.write_all(case) {
+            Err(error) if error.kind() != io::ErrorKind::BrokenPipe => return Err(error),
+            _ => {}
+        }
+    }
+    let output = child.wait_with_output()?;
+    Ok(Run { printed: output.stdout, ended_well: output.status.success() })
+}
+
+/// Differences written out in full; of the rest only the number is told.
+const SHOWN: usize = 5;
+
+/// The counts, or the first differences, each with the commands that run its case alone.
+pub fn report(cases: Cases, program: &[&str], own_name: &str, comparison: &Comparison) -> String {
+    let Cases { seed, count, kind } = cases;
+    let kind = kind_name(kind);
+    let Comparison { answered, refused, input, differences } = comparison;
+    let mut text = format!("seed {seed}, kind {kind}, {count} cases: ");
+    if differences.is_empty() {
+        text.push_str(&format!("{answered} answered, {refused} refused, {input} not an input; no difference\n"));
+        return text;
+    }
+    text.push_str(&format!("{} DIFFER\n", differences.len()));
+    for Difference { index, expected, run } in differences.iter().take(SHOWN) {
+        text.push_str(&format!("difference: seed {seed}, kind {kind}, case {index}\n"));
+        text.push_str(&first_difference(expected, run));
+        for printer in [program.join(" "), format!("{own_name} levels")] {
+            text.push_str(&format!("  alone: {own_name} case {seed} {index} {kind} | {printer}\n"));
+        }
+    }
+    text
+}
+
+fn first_difference(expected: &str, run: &Run) -> String {
+    let mut text = String::new();
+    if !run.ended_well {
+        text.push_str("  the program did not end with status 0\n");
+    }
+    let (ours, theirs) = (lines(expected.as_bytes()), lines(&run.printed));
+    let line_of = |lines: &[&[u8]], line: usize| lines.get(line).map_or("no line".to_string(), |bytes| shown(bytes));
+    if let Some(line) = (0..ours.len().max(theirs.len())).find(|&line| ours.get(line) != theirs.get(line)) {
+        let (ours, theirs) = (line_of(&ours, line), line_of(&theirs, line));
+        text.push_str(&format!("  line {}: {ours} here, {theirs} from the program\n", line + 1));
+    }
+    text
+}
+
+/// Each line keeps its line feed, so that a missing one is seen.
+fn lines(text: &[u8]) -> Vec<&[u8]> {
+    text.split_inclusive(|&byte| byte == b'\n').collect()
+}
+
+/// The start of a line in quotes, whatever bytes it has.
+fn shown(line: &[u8]) -> String {
+    format!("\"{}\"", line[..line.len().min(LONGEST_SHOWN)].escape_ascii())
+}
+
+const LONGEST_SHOWN: usize = 100;

@@ -1,0 +1,142 @@
+#!/bin/sh
+# The level printer by itself: inputs at the edges of its format, each answered as said here and as by reference/.
+# shellcheck source-path=SCRIPTDIR
+. "$(dirname "$0")/checks.sh"
+
+road_tree=$examples/road_trip/tree.ftf
+road_sheet=$examples/road_trip/sheet.fts
+in=$work/input
+
+# The printer's input with the true lengths of two files.
+framed() { # N TREE SHEET
+    two_bytes "$1"
+    two_bytes "$(wc -c <"$2")"
+    two_bytes "$(wc -c <"$3")"
+    cat "$2" "$3"
+}
+
+road_trip() { framed "$1" "$road_tree" "$road_sheet"; }
+
+# Two lengths, and as many bytes as they say.
+lengths() { # TREE-LENGTH SHEET-LENGTH
+    two_bytes 2
+    two_bytes "$1"
+    two_bytes "$2"
+    { cat "$road_tree"; zeros "$1"; } | head -c "$1"
+    { cat "$road_sheet"; zeros "$2"; } | head -c "$2"
+}
+
+# Gives the input to the printer: the first line and the number of lines are as said, every byte as by reference/.
+shows() { # NAME FIRST-LINE LINES
+    run "$levels" <"$in"
+    "$reference" levels <"$in" >"$work/expected"
+    hold "$1: status" [ "$status" -eq 0 ]
+    hold "$1: first line" [ "$(head -n 1 "$work/out")" = "$2" ]
+    hold "$1: lines" [ "$(($(wc -l <"$work/out")))" -eq "$3" ]
+    hold "$1: as by reference/" cmp -s "$work/out" "$work/expected"
+    hold "$1: no errors" [ ! -s "$work/err" ]
+}
+
+# The pair of document 01: tree 7 with the entry (0, 1, 1, 2) alone, two levels.
+desk_example() {
+    printf '\2\0\16\0\53\0'
+    printf 'FTF\1\0\7\0\1\0\0\0\0\0\0'
+    printf 'FTS\1\0\7\0\1\0\0'
+    zeros 16
+    printf '\0\0\0\0\0\1\0\0\0\1\0\0\0\2\0\0\0'
+}
+
+answers() {
+    desk_example >"$in"
+    shows "document 01's example" "tree 7 events 1 levels 2" 4
+    printf 'tree 7 events 1 levels 2\n2 1 = 1 =\n1 0 ~ 2 ~\n0 0 = 2 =\n' >"$work/desk"
+    hold "document 01's example: every byte" cmp -s "$work/out" "$work/desk"
+    for n in 0 1001 65535; do
+        road_trip "$n" >"$in"
+        shows "n of $n" "refused 13 at 0" 1
+    done
+    for n in 1 1000; do
+        road_trip "$n" >"$in"
+        shows "n of $n" "tree 1 events 3 levels $n" $((n + 2))
+    done
+    # The last of the limits: 1,024 nodes with 960 events, n of 1,000.
+    "$reference" case 1 $(($("$reference" limits) - 1)) limits >"$in"
+    number=$(($(od -An -tu1 -j 11 -N 1 "$in") + 256 * $(od -An -tu1 -j 12 -N 1 "$in")))
+    shows "the largest pair" "tree $number events 960 levels 1000" 1002
+}
+
+short_inputs() {
+    for length in 0 1 2 3 4 5; do
+        zeros "$length" >"$in"
+        shows "$length zeros" input 1
+        road_trip 2 | head -c "$length" >"$in"
+        shows "$length bytes of an input" input 1
+    done
+    zeros 6 >"$in"
+    shows "6 zeros: a tree of 0 bytes" "refused 1 at 0" 1
+    zeros 7 >"$in"
+    shows "7 zeros" input 1
+}
+
+# Inputs that are not 6 bytes and both lengths.
+wrong_sums() {
+    whole=$(($(road_trip 2 | wc -c)))
+    road_trip 2 | head -c $((whole - 1)) >"$in"
+    shows "a byte too few" input 1
+    for more in 1 24615 65536 1000000; do
+        { road_trip 2; zeros "$more"; } >"$in"
+        shows "$more bytes too many" input 1
+    done
+    # Sums that are right in 16 bits alone.
+    { two_bytes 2; two_bytes 65535; two_bytes 1; } >"$in"
+    shows "65,535 and 1 before no byte" input 1
+    { two_bytes 2; two_bytes 42; two_bytes 65535; head -c 41 "$road_tree"; } >"$in"
+    shows "42 and 65,535 before 41 bytes" input 1
+    { two_bytes 2; two_bytes 65530; two_bytes 0; } >"$in"
+    shows "65,530 and 0, which make 65,536 with the 6" input 1
+}
+
+longest_files() {
+    lengths 7175 77 >"$in"
+    shows "tree length 7,175" "refused 5 at 7175" 1
+    lengths 7176 77 >"$in"
+    shows "tree length 7,176" input 1
+    lengths 42 17434 >"$in"
+    shows "sheet length 17,434" "refused 5 at 17434" 1
+    lengths 42 17435 >"$in"
+    shows "sheet length 17,435" input 1
+    lengths 7175 17434 >"$in"
+    shows "both lengths at their most" "refused 5 at 7175" 1
+    { lengths 7175 17434; zeros 1; } >"$in"
+    shows "both lengths at their most, and a byte" input 1
+    lengths 65535 65535 >"$in"
+    shows "both lengths at 65,535" input 1
+}
+
+pairs_that_do_not_match() {
+    framed 2 "$road_tree" "$examples/fuel_supply/sheet.fts" >"$in"
+    shows "another tree number" "refused 24 at 0" 1
+    six=$examples/container_seal/sheet.fts
+    { head -c 5 "$six"; two_bytes 1; tail -c +8 "$six"; } >"$work/six.fts"
+    framed 2 "$road_tree" "$work/six.fts" >"$in"
+    shows "another E" "refused 24 at 0" 1
+    framed 2 "$road_sheet" "$road_tree" >"$in"
+    shows "the files in the wrong order" "refused 2 at 0" 1
+}
+
+# The input comes in two pieces.
+in_pieces() { { head -c 3 "$in"; sleep 0.1; tail -c +4 "$in"; } | "$levels"; }
+
+pieces() {
+    road_trip 2 >"$in"
+    run in_pieces
+    hold "an input in two pieces" cmp -s "$work/out" "$examples/road_trip/levels-2.txt"
+}
+
+answers
+short_inputs
+wrong_sums
+longest_files
+pairs_that_do_not_match
+pieces
+finish
