@@ -11,3 +11,4 @@ pub mod Asking
 pub mod Holding
 pub mod Framing
 pub mod Finishing
+pub mod TextLength
