@@ -1,5 +1,7 @@
 -- `capi::hand_in::nekbrod_drop_both` meets its contract. Assumes nothing.
+use mathlib.Core.Path.{ap, _∙_}
 use borrow.Author.Needs.{needs}
+use Rattle.capi.specs.State.{state-of}
 use Rattle.capi.proofs.hand_in.nekbrod_drop_both.Statement.{statement}
 use Rattle.capi.proofs.hand_in.nekbrod_drop_both.Tie as tie
 
@@ -13,7 +15,7 @@ lengths-requires : tie.Need-lengths-requires
 lengths-requires c κs = search needs
 
 returns : tie.Need-returns
-returns c = cc
+returns c = c .lengths .ensures ∙ ap state-of (c .before .drop-both .ensures)
 
 pub nekbrod-drop-both-spec : {M : Type 1} → statement M
 nekbrod-drop-both-spec = tie.close (tie.spec held-state-requires drop-both-requires lengths-requires returns)

@@ -1,5 +1,9 @@
 -- `capi::hand_in::nekbrod_hand_in_tree` meets its contract. Assumes nothing.
+use denote.Ref.{now}
 use borrow.Author.Needs.{needs}
+use Rattle.monitor.specs.HandIn.{tree-answer}
+use Rattle.monitor.specs.declared.state.State.{State as Held}
+use Rattle.capi.proofs.Forms.{answer-made}
 use Rattle.capi.proofs.hand_in.nekbrod_hand_in_tree.Statement.{statement}
 use Rattle.capi.proofs.hand_in.nekbrod_hand_in_tree.Tie as tie
 
@@ -19,7 +23,16 @@ same-length : tie.Need-same-length
 same-length c = search needs
 
 returns : tie.Need-returns
-returns c = (cc, search needs)
+returns c =
+    let handed = c .before .before .before .before in
+    let converted = handed .before .before in
+    let args = converted .before .before .before .args in
+    let answer = handed .hand-in-tree in (
+      answer-made (λ (held : Held). tree-answer held (now (args .file)) (now (args .store))) (args .state) _
+          (converted .held-state .ensures) (answer .result) (answer .ensures .0) _ (c .before .lengths .ensures) _
+          (c .refusal-of .ensures),
+      answer .ensures .1,
+    )
 
 pub nekbrod-hand-in-tree-spec : {M : Type 1} → statement M
 nekbrod-hand-in-tree-spec =
