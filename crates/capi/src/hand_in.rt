@@ -37,10 +37,10 @@ pub extern "C" fn nekbrod_hand_in_tree(state: State, file: &[u8], store: &mut [u
     ensures { λ r. ⌜ r ≡ answer-for (tree-answer (held-of state) (now (file .entry)) (now (store .entry))) ⌝ }
     ensures { λ _. ⌜ now (store .exit) ≡ tree-store (now (file .entry)) (now (store .entry)) ⌝ }
 {
-    let answer = hand_in_tree(held_state(state), file, store);
-    let verdict = answer.verdict;
+    let tree_answer = hand_in_tree(held_state(state), file, store);
+    let verdict = tree_answer.verdict;
     Answer {
-        state: lengths(answer.state),
+        state: lengths(tree_answer.state),
         refusal: refusal_of(verdict),
     }
 }
@@ -51,10 +51,10 @@ pub extern "C" fn nekbrod_hand_in_sheet(state: State, sheet: &[u8], store: &mut 
     ensures { λ r. ⌜ r ≡ answer-for (sheet-answer (held-of state) (now (sheet .entry)) (now (store .entry))) ⌝ }
     ensures { λ _. ⌜ now (store .exit) ≡ sheet-store (now (sheet .entry)) (now (store .entry)) ⌝ }
 {
-    let answer = hand_in_sheet(held_state(state), sheet, store);
-    let verdict = answer.verdict;
+    let sheet_answer = hand_in_sheet(held_state(state), sheet, store);
+    let verdict = sheet_answer.verdict;
     Answer {
-        state: lengths(answer.state),
+        state: lengths(sheet_answer.state),
         refusal: refusal_of(verdict),
     }
 }
@@ -64,5 +64,9 @@ pub extern "C" fn nekbrod_hand_in_sheet(state: State, sheet: &[u8], store: &mut 
 pub extern "C" fn nekbrod_drop_both(state: State) -> State
     ensures { λ r. ⌜ r ≡ state-of nothing-held ⌝ }
 {
-    lengths(drop_both(held_state(state)))
+    let dropped = drop_both(held_state(state));
+    State {
+        tree_len: dropped.tree_len,
+        sheet_len: dropped.sheet_len,
+    }
 }

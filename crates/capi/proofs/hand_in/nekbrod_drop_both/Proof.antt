@@ -1,5 +1,5 @@
 -- `capi::hand_in::nekbrod_drop_both` meets its contract. Assumes nothing.
-use mathlib.Core.Path.{ap, _∙_}
+use mathlib.Core.Path.{ap}
 use borrow.Author.Needs.{needs}
 use Rattle.capi.specs.State.{state-of}
 use Rattle.capi.proofs.hand_in.nekbrod_drop_both.Statement.{statement}
@@ -11,11 +11,8 @@ held-state-requires c κs = search needs
 drop-both-requires : tie.Need-drop-both-requires
 drop-both-requires c κs = search needs
 
-lengths-requires : tie.Need-lengths-requires
-lengths-requires c κs = search needs
-
 returns : tie.Need-returns
-returns c = c .lengths .ensures ∙ ap state-of (c .before .drop-both .ensures)
+returns c = ap state-of (c .drop-both .ensures)
 
 pub nekbrod-drop-both-spec : {M : Type 1} → statement M
-nekbrod-drop-both-spec = tie.close (tie.spec held-state-requires drop-both-requires lengths-requires returns)
+nekbrod-drop-both-spec = tie.close (tie.spec held-state-requires drop-both-requires returns)
