@@ -1,11 +1,13 @@
 //! Links the proved library that `rt staticlib capi` writes.
 
+use std::env;
 use std::path::Path;
 
 const LIBRARY: &str = "libcapi.a";
 
 fn main() {
-    let folder = Path::new(env!("CARGO_MANIFEST_DIR")).join("../target/staticlib");
+    let package = env::var("CARGO_MANIFEST_DIR").expect("cargo names the package's folder");
+    let folder = Path::new(&package).join("../target/staticlib");
     let library = folder.join(LIBRARY);
     println!("cargo::rerun-if-changed={}", library.display());
     if !library.exists() {

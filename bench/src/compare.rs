@@ -1,6 +1,6 @@
 //! Generated cases through both monitors: lists of calls, and the level printer's inputs as calls.
 
-use crate::desk::{Desk, Difference, Tally};
+use crate::desk::{guarded, Desk, Difference, Tally};
 use reference::calls::{parse_call, Call};
 use reference::cases::limits::LIMITS;
 use reference::cases::vector_list::vector_list;
@@ -81,7 +81,7 @@ pub fn compare(cases: Cases) -> (Tally, Result<(), Found>) {
 
 fn run_calls(desk: &mut Desk, calls: &[Call]) -> Result<(), (usize, Difference)> {
     for (index, call) in calls.iter().enumerate() {
-        desk.run(call).map_err(|difference| (index, difference))?;
+        guarded(|| desk.run(call)).map_err(|difference| (index, difference))?;
     }
     Ok(())
 }

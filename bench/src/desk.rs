@@ -8,12 +8,19 @@ use reference::cut::Level;
 use reference::evaluation::WorkSlices;
 use reference::monitor::{self, Stores};
 use std::fmt::Debug;
+use std::panic::{self, AssertUnwindSafe};
 
 /// What the two monitors differ in.
 #[derive(Debug)]
 pub struct Difference(pub String);
 
 pub type Checked = Result<(), Difference>;
+
+/// Runs a part of the work; a panic in it counts as a difference, so that its case is named.
+pub fn guarded(work: impl FnOnce() -> Checked) -> Checked {
+    let panicked = |_| Err(Difference("the reference panics".to_string()));
+    panic::catch_unwind(AssertUnwindSafe(work)).unwrap_or_else(panicked)
+}
 
 /// Places of each work slice; a question is lent the first ones, and the others are watched.
 pub const ROOM: usize = 1_100;

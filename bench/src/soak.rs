@@ -2,7 +2,7 @@
 //! bytes, states and store lengths between them. Most trees are small, so that many calls take little time.
 
 use crate::capi::State;
-use crate::desk::{Checked, Desk, Difference, Tally};
+use crate::desk::{guarded, Checked, Desk, Difference, Tally};
 use reference::cases::sheet_damage::SHEET_DAMAGES;
 use reference::cases::tree_damage::TREE_DAMAGES;
 use reference::cases::trees::{chain, most_events, random_tree, Shape};
@@ -82,7 +82,7 @@ pub fn soak(seed: u64, calls: u64) -> (Tally, Result<(), Difference>) {
     let mut random = Random::for_case(seed, 0);
     let shelf = Shelf::new(&mut random, false);
     let mut soak = Soak { random, desk: Desk::default(), shelf, chosen: 0 };
-    let outcome = soak.run(calls);
+    let outcome = guarded(|| soak.run(calls));
     (soak.desk.tally, outcome)
 }
 
