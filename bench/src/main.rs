@@ -2,7 +2,7 @@
 
 use bench::compare::{compare, Cases};
 use bench::desk::Tally;
-use bench::ratios::{cost, ENTRIES};
+use bench::ratios::{costs, Cost, Entries, Size};
 use bench::soak::soak;
 use std::process::ExitCode;
 use std::time::{Instant, SystemTime, UNIX_EPOCH};
@@ -15,9 +15,9 @@ bench soak [SEED CALLS]             calls in a random order through both, each c
 
 const CASES: u64 = 50_000;
 const SOAK_CALLS: u64 = 10_000_000;
-/// Sizes at which ratios are asked for, and those at which the growth is seen.
-const SIZES: [usize; 3] = [3, 64, 1_023];
-const GROWTH: [usize; 4] = [127, 255, 511, 1_023];
+const NODES: [usize; 6] = [3, 64, 127, 255, 511, 1_023];
+const ENTRIES: [(Entries, &str); 3] =
+    [(Entries::Numbers, "four numbers"), (Entries::Opinions, "opinions"), (Entries::Both, "both")];
 
 fn main() -> ExitCode {
     let arguments: Vec<String> = std::env::args().skip(1).collect();
@@ -89,20 +89,16 @@ fn run_soak(seed: u64, calls: u64) -> bool {
 
 /// Figures are for reading: nothing is held to them here.
 fn print_ratios() -> bool {
-    println!("question, median of rounds     capi ns  reference ns  capi/reference");
-    for nodes in SIZES {
-        for (entries, name) in ENTRIES {
-            let cost = cost(nodes, entries);
-            println!("{nodes:5} nodes, {name:13} {:12.0} {:13.0} {:15.2}", cost.capi, cost.reference, cost.ratio);
-        }
-    }
-    println!("nanoseconds a node as the tree grows");
-    for (entries, name) in ENTRIES {
-        for nodes in GROWTH {
-            let cost = cost(nodes, entries);
-            let (capi, reference) = (cost.capi / nodes as f64, cost.reference / nodes as f64);
-            println!("{nodes:5} nodes, {name:13} {capi:12.1} {reference:13.1}");
-        }
+    let sizes: Vec<Size> =
+        ENTRIES.iter().flat_map(|&(entries, _)| NODES.map(|nodes| Size { nodes, entries })).collect();
+    let names = ENTRIES.iter().flat_map(|&(_, name)| NODES.map(|_| name));
+    println!("                        a question, ns                     a node, ns");
+    println!("entries       nodes     capi  reference  capi/reference    capi  reference");
+    for ((size, name), cost) in sizes.iter().zip(names).zip(costs(&sizes)) {
+        let nodes = size.nodes as f64;
+        let Cost { capi, reference, ratio } = cost;
+        print!("{name:12} {:6} {capi:8.0} {reference:10.0} {ratio:15.2}", size.nodes);
+        println!(" {:7.1} {:10.1}", capi / nodes, reference / nodes);
     }
     true
 }

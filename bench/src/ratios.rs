@@ -1,4 +1,5 @@
-//! Questions through the C interface beside the same questions in the reference: the same buffers, in rounds by turns.
+//! Questions through the C interface beside the same questions in the reference, with the same buffers. A round goes
+//! through every tree and both monitors, so that all see the same machine.
 
 use crate::capi::{self, State, Work};
 use crate::expected;
@@ -12,9 +13,9 @@ use reference::random::Random;
 use std::hint::black_box;
 use std::time::Instant;
 
-const ROUNDS: usize = 41;
-/// A round takes about this long for each monitor.
-const ROUND_NANOSECONDS: u64 = 4_000_000;
+const ROUNDS: usize = 201;
+/// About the time that a monitor has for each tree in a round.
+const TURN_NANOSECONDS: f64 = 1_000_000.0;
 const LEVELS: u32 = 1_000;
 const EXPERTS: usize = 16;
 const TREE_NUMBER: u16 = 1;
@@ -23,11 +24,16 @@ const TREE_NUMBER: u16 = 1;
 pub enum Entries {
     Numbers,
     Opinions,
+    /// One after the other.
     Both,
 }
 
-pub const ENTRIES: [(Entries, &str); 3] =
-    [(Entries::Numbers, "four numbers"), (Entries::Opinions, "opinions"), (Entries::Both, "both by turns")];
+/// The trees timed: the number of nodes, and the entries of the sheet.
+#[derive(Clone, Copy, Debug)]
+pub struct Size {
+    pub nodes: usize,
+    pub entries: Entries,
+}
 
 /// Median nanoseconds of a question, and the median over the rounds of the C interface's time by the reference's.
 #[derive(Clone, Copy, Debug)]
@@ -37,7 +43,7 @@ pub struct Cost {
     pub ratio: f64,
 }
 
-/// A held pair and the work slices, lent to both monitors.
+/// A held pair and the work slices, lent to both monitors, and what each round took.
 struct Bench {
     state: State,
     tree: Vec<u8>,
@@ -45,24 +51,19 @@ struct Bench {
     lower: Vec<u32>,
     upper: Vec<u32>,
     marks: Vec<u8>,
+    /// Questions in a turn.
+    questions: u32,
+    capi: Vec<f64>,
+    reference: Vec<f64>,
 }
 
-pub fn cost(nodes: usize, entries: Entries) -> Cost {
-    let mut bench = Bench::new(nodes, entries);
-    bench.warm_up();
-    let questions = bench.questions_a_round();
-    let (mut capi, mut reference) = (Vec::new(), Vec::new());
+/// The cost of a question for each size.
+pub fn costs(sizes: &[Size]) -> Vec<Cost> {
+    let mut benches: Vec<Bench> = sizes.iter().map(|&size| Bench::new(size)).collect();
     for round in 0..ROUNDS {
-        if round % 2 == 0 {
-            capi.push(bench.time_capi(questions));
-            reference.push(bench.time_reference(questions));
-        } else {
-            reference.push(bench.time_reference(questions));
-            capi.push(bench.time_capi(questions));
-        }
+        benches.iter_mut().for_each(|bench| bench.run_round(round % 2 == 0));
     }
-    let ratios = capi.iter().zip(&reference).map(|(capi, reference)| capi / reference).collect();
-    Cost { capi: median(capi), reference: median(reference), ratio: median(ratios) }
+    benches.into_iter().map(Bench::cost).collect()
 }
 
 /// Events first, then gates of two inputs over them in pairs; a gate of one input where a node is left to place.
@@ -96,14 +97,47 @@ fn entry(random: &mut Random, entries: Entries, event: usize) -> Entry {
 }
 
 impl Bench {
-    fn new(nodes: usize, entries: Entries) -> Bench {
-        let random = &mut Random::for_case(nodes as u64, 0);
-        let tree = paired_tree(random, nodes);
+    fn new(size: Size) -> Bench {
+        let mut bench = Bench::holding(size);
+        bench.warm_up();
+        bench.questions = ((TURN_NANOSECONDS / bench.time_reference().max(1.0)) as u32).max(4);
+        bench
+    }
+
+    fn holding(size: Size) -> Bench {
+        let random = &mut Random::for_case(size.nodes as u64, 0);
+        let tree = paired_tree(random, size.nodes);
         let scores: Vec<u8> = (0..EXPERTS).map(|_| random.between(1, 100) as u8).collect();
-        let entries: Vec<Entry> = (0..count_events(&tree)).map(|event| entry(random, entries, event)).collect();
+        let entries: Vec<Entry> = (0..count_events(&tree)).map(|event| entry(random, size.entries, event)).collect();
         let (tree, sheet) = (tree_bytes(TREE_NUMBER, &tree), sheet_bytes(TREE_NUMBER, &scores, &entries));
-        let state = State { tree_len: tree.len(), sheet_len: sheet.len() };
-        Bench { state, tree, sheet, lower: vec![0; nodes], upper: vec![0; nodes], marks: vec![0; nodes] }
+        Bench {
+            state: State { tree_len: tree.len(), sheet_len: sheet.len() },
+            tree,
+            sheet,
+            lower: vec![0; size.nodes],
+            upper: vec![0; size.nodes],
+            marks: vec![0; size.nodes],
+            questions: 64,
+            capi: Vec::new(),
+            reference: Vec::new(),
+        }
+    }
+
+    fn run_round(&mut self, capi_first: bool) {
+        for capi in [capi_first, !capi_first] {
+            if capi {
+                let time = self.time_capi();
+                self.capi.push(time);
+            } else {
+                let time = self.time_reference();
+                self.reference.push(time);
+            }
+        }
+    }
+
+    fn cost(self) -> Cost {
+        let ratios = self.capi.iter().zip(&self.reference).map(|(capi, reference)| capi / reference).collect();
+        Cost { capi: median(self.capi), reference: median(self.reference), ratio: median(ratios) }
     }
 
     fn ask_capi(&mut self, k: u32) -> capi::Reply {
@@ -126,27 +160,21 @@ impl Bench {
         }
     }
 
-    fn questions_a_round(&mut self) -> u32 {
-        let trial = 64;
-        let nanoseconds = self.time_reference(trial).max(1.0);
-        ((ROUND_NANOSECONDS as f64 / nanoseconds) as u32).max(8)
-    }
-
-    /// Nanoseconds of a question over that many, level after level.
-    fn time_capi(&mut self, questions: u32) -> f64 {
+    /// Nanoseconds of a question over a turn, level after level.
+    fn time_capi(&mut self) -> f64 {
         let start = Instant::now();
-        for question in 0..questions {
+        for question in 0..self.questions {
             black_box(self.ask_capi(black_box(question % (LEVELS + 1))));
         }
-        start.elapsed().as_nanos() as f64 / questions as f64
+        start.elapsed().as_nanos() as f64 / self.questions as f64
     }
 
-    fn time_reference(&mut self, questions: u32) -> f64 {
+    fn time_reference(&mut self) -> f64 {
         let start = Instant::now();
-        for question in 0..questions {
+        for question in 0..self.questions {
             black_box(self.ask_reference(black_box(question % (LEVELS + 1))));
         }
-        start.elapsed().as_nanos() as f64 / questions as f64
+        start.elapsed().as_nanos() as f64 / self.questions as f64
     }
 }
 
