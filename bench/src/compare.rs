@@ -67,7 +67,7 @@ pub fn compare(cases: Cases) -> (Tally, Result<(), Found>) {
     let mut tally = Tally::default();
     let limits = if cases.first == 0 { LIMITS.len() as u64 } else { 0 };
     let stored = (cases.first == 0).then_some(Case::Stored);
-    let generated = (cases.first..cases.first + cases.count).map(Case::Generated);
+    let generated = (cases.first..cases.first.saturating_add(cases.count)).map(Case::Generated);
     for case in stored.into_iter().chain((0..limits).map(Case::Limit)).chain(generated) {
         let mut desk = Desk::default();
         let outcome = run_calls(&mut desk, &case.calls(cases.seed));
@@ -88,7 +88,7 @@ fn run_calls(desk: &mut Desk, calls: &[Call]) -> Result<(), (usize, Difference)>
 
 /// A list of calls and an input of the printer by turns; each kind keeps a count of its own.
 fn generated_calls(seed: u64, index: u64) -> Vec<Call> {
-    if index % 2 == 0 {
+    if index.is_multiple_of(2) {
         let list = write_case(Kind::Calls, seed, index / 2);
         return String::from_utf8_lossy(&list).lines().map_while(parse_call).collect();
     }

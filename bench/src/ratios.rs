@@ -68,7 +68,7 @@ pub fn costs(sizes: &[Size]) -> Vec<Cost> {
 
 /// Events first, then gates of two inputs over them in pairs; a gate of one input where a node is left to place.
 fn paired_tree(random: &mut Random, count: usize) -> Vec<Node> {
-    let events = (count + 1) / 2;
+    let events = count.div_ceil(2);
     let mut nodes = vec![Node::Event; events];
     let mut next = 0;
     while nodes.len() < 2 * events - 1 {
@@ -86,7 +86,7 @@ fn entry(random: &mut Random, entries: Entries, event: usize) -> Entry {
     let numbers = match entries {
         Entries::Numbers => true,
         Entries::Opinions => false,
-        Entries::Both => event % 2 == 0,
+        Entries::Both => event.is_multiple_of(2),
     };
     if !numbers {
         return any_opinions(random, EXPERTS);
