@@ -3,6 +3,7 @@ use Prim.Native.Nat.{ℕ}
 use mathlib.Core.Path.{_≡_, ap, _∙_}
 use mathlib.Core.Bool.{false}
 use mathlib.Core.List.{List}
+use Rattle.theory.specs.Unit.{billion}
 use Rattle.monitor.specs.Refusals.{number-of, place-of}
 use Rattle.monitor.specs.Standing.{standing-of}
 use Rattle.monitor.specs.declared.refusal.Refusal.{Refusal as Reason}
@@ -79,7 +80,7 @@ pub reply-refused : (state : State) (outcome : Outcome) (reason : Reason) (r : R
       state = state;
       refusal = r;
       lower = 0;
-      upper = 1000000000;
+      upper = billion;
       «lower_exact» = false;
       «upper_exact» = false;
       events = 0;

@@ -3,6 +3,7 @@ use Prim.Native.Nat.{ℕ}
 use mathlib.Core.Path.{_≡_}
 use mathlib.Core.Bool.{false}
 use mathlib.Core.List.{List}
+use Rattle.theory.specs.Unit.{billion}
 use Rattle.monitor.specs.Promise.{Kept}
 use Rattle.monitor.specs.declared.question.Report.{Report}
 use Rattle.monitor.specs.declared.question.Outcome.{Outcome}
@@ -28,7 +29,7 @@ reply-by state (Refused reason) = record {
   state = state;
   refusal = refused-by reason;
   lower = 0;
-  upper = 1000000000;
+  upper = billion;
   «lower_exact» = false;
   «upper_exact» = false;
   events = 0;

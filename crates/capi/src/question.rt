@@ -10,11 +10,11 @@ use monitor::question::question;
 ghost use mathlib.Core.Path.{_≡_};
 ghost use Rattle.monitor.specs.Question.{reply-of, lowers-left, uppers-left, marks-left};
 ghost use Rattle.monitor.specs.Question.{held-tree-bytes, held-sheet-bytes};
-ghost use Rattle.capi.specs.State.{held-of, state-of};
+ghost use Rattle.capi.specs.State.{held-of};
 ghost use Rattle.capi.specs.Question.{reply-by, reply-for, Promises-kept};
 
-// One unit is a billionth: the upper end of an enclosure that says nothing.
-const ALL_UNITS: u32 = 1000000000;
+// The probability 1 in units: a unit is a billionth.
+const ONE: u32 = 1000000000;
 
 // What a question answers: the state, unchanged; why it was refused, if it was; the root's ends in units, each with its
 // mark, and the number of basic events (E). Refused, it has the enclosure that says nothing: 0 to 1, unmarked.
@@ -47,7 +47,7 @@ fn reply_by(state: State, outcome: Outcome) -> Reply
             state,
             refusal: refusal_for(reason),
             lower: 0,
-            upper: ALL_UNITS,
+            upper: ONE,
             lower_exact: false,
             upper_exact: false,
             events: 0,
