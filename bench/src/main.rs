@@ -1,0 +1,104 @@
+//! The commands; `bench help` lists them.
+
+use bench::compare::{compare, Cases};
+use bench::desk::Tally;
+use bench::ratios::{costs, Cost, Entries, Size};
+use bench::soak::soak;
+use std::process::ExitCode;
+use std::time::{Instant, SystemTime, UNIX_EPOCH};
+
+const USAGE: &str = "\
+bench                               questions through capi beside the same in reference/: ratios, and the cost per node
+bench compare [SEED COUNT [FIRST]]  generated cases through both, from case FIRST on; with no FIRST all limits too
+bench soak [SEED CALLS]             calls in a random order through both, each checked
+";
+
+const CASES: u64 = 50_000;
+const SOAK_CALLS: u64 = 10_000_000;
+const NODES: [usize; 6] = [3, 64, 127, 255, 511, 1_023];
+const ENTRIES: [(Entries, &str); 3] =
+    [(Entries::Numbers, "four numbers"), (Entries::Opinions, "opinions"), (Entries::Both, "both")];
+
+fn main() -> ExitCode {
+    let arguments: Vec<String> = std::env::args().skip(1).collect();
+    let words: Vec<&str> = arguments.iter().map(String::as_str).collect();
+    match run(&words) {
+        Some(true) => ExitCode::SUCCESS,
+        Some(false) => ExitCode::from(1),
+        None => {
+            eprint!("{USAGE}");
+            ExitCode::from(2)
+        }
+    }
+}
+
+/// Whether the two monitors agreed, or nothing where the words are no command.
+fn run(words: &[&str]) -> Option<bool> {
+    match *words {
+        [] => Some(print_ratios()),
+        ["compare"] => Some(run_compare(Cases { seed: any_seed(), count: CASES, first: 0 })),
+        ["compare", seed, count] => {
+            Some(run_compare(Cases { seed: seed.parse().ok()?, count: count.parse().ok()?, first: 0 }))
+        }
+        ["compare", seed, count, first] => Some(run_compare(Cases {
+            seed: seed.parse().ok()?,
+            count: count.parse().ok()?,
+            first: first.parse().ok()?,
+        })),
+        ["soak"] => Some(run_soak(any_seed(), SOAK_CALLS)),
+        ["soak", seed, calls] => Some(run_soak(seed.parse().ok()?, calls.parse().ok()?)),
+        _ => None,
+    }
+}
+
+/// The second at which it is asked for.
+fn any_seed() -> u64 {
+    SystemTime::now().duration_since(UNIX_EPOCH).map_or(0, |time| time.as_secs())
+}
+
+fn counts(tally: Tally) -> String {
+    let Tally { calls, questions, answered, hand_ins, accepted } = tally;
+    format!("{calls} calls: {questions} questions, {answered} answered; {hand_ins} hand-ins, {accepted} accepted")
+}
+
+fn run_compare(cases: Cases) -> bool {
+    let Cases { seed, count, first } = cases;
+    println!("compare: seed {seed}, {count} cases from case {first} on");
+    let start = Instant::now();
+    let (tally, outcome) = compare(cases);
+    match &outcome {
+        Ok(()) => println!("compare: no difference in {} ({} s)", counts(tally), start.elapsed().as_secs()),
+        Err(found) => {
+            println!("compare: seed {seed}, {}, call {}: {}", found.case, found.call, found.difference.0);
+            println!("compare: to run it again alone: bench compare {}", found.case.again(seed));
+        }
+    }
+    outcome.is_ok()
+}
+
+fn run_soak(seed: u64, calls: u64) -> bool {
+    println!("soak: seed {seed}, {calls} calls");
+    let start = Instant::now();
+    let (tally, outcome) = soak(seed, calls);
+    match &outcome {
+        Ok(()) => println!("soak: no difference in {} ({} s)", counts(tally), start.elapsed().as_secs()),
+        Err(difference) => println!("soak: seed {seed}, call {}: {}", tally.calls, difference.0),
+    }
+    outcome.is_ok()
+}
+
+/// Figures are for reading: nothing is held to them here.
+fn print_ratios() -> bool {
+    let sizes: Vec<Size> =
+        ENTRIES.iter().flat_map(|&(entries, _)| NODES.map(|nodes| Size { nodes, entries })).collect();
+    let names = ENTRIES.iter().flat_map(|&(_, name)| NODES.map(|_| name));
+    println!("                        a question, ns                     a node, ns");
+    println!("entries       nodes     capi  reference  capi/reference    capi  reference");
+    for ((size, name), cost) in sizes.iter().zip(names).zip(costs(&sizes)) {
+        let nodes = size.nodes as f64;
+        let Cost { capi, reference, ratio } = cost;
+        print!("{name:12} {:6} {capi:8.0} {reference:10.0} {ratio:15.2}", size.nodes);
+        println!(" {:7.1} {:10.1}", capi / nodes, reference / nodes);
+    }
+    true
+}

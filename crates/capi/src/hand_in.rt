@@ -1,0 +1,72 @@
+// Handing in a tree file or an opinion sheet, and dropping both.
+use crate::refusal::Refusal;
+use crate::refusal::no_refusal;
+use crate::refusal::refusal_for;
+use crate::state::State;
+use crate::state::held_state;
+use crate::state::lengths;
+use monitor::hand_in::Verdict;
+use monitor::hand_in::drop_both;
+use monitor::hand_in::hand_in_sheet;
+use monitor::hand_in::hand_in_tree;
+ghost use mathlib.Core.Path.{_≡_};
+ghost use Rattle.monitor.specs.HandIn.{tree-answer, tree-store, sheet-answer, sheet-store, nothing-held};
+ghost use Rattle.capi.specs.State.{held-of, state-of};
+ghost use Rattle.capi.specs.HandIn.{verdict-refusal, answer-for};
+
+// What a hand-in answers: the state after it, and why the file was refused, if it was.
+#[repr(C)]
+pub struct Answer {
+    pub state: State,
+    pub refusal: Refusal,
+}
+
+// The refusal of a verdict.
+fn refusal_of(verdict: Verdict) -> Refusal
+    ensures { λ r. ⌜ r ≡ verdict-refusal verdict ⌝ }
+{
+    match verdict {
+        Verdict::Accepted => no_refusal(),
+        Verdict::Refused(reason) => refusal_for(reason),
+    }
+}
+
+// Hands in a tree file: an accepted one is copied to the front of its store and replaces the one held.
+#[no_mangle]
+pub extern "C" fn nekbrod_hand_in_tree(state: State, file: &[u8], store: &mut [u8]) -> Answer
+    ensures { λ r. ⌜ r ≡ answer-for (tree-answer (held-of state) (now (file .entry)) (now (store .entry))) ⌝ }
+    ensures { λ _. ⌜ now (store .exit) ≡ tree-store (now (file .entry)) (now (store .entry)) ⌝ }
+{
+    let tree_answer = hand_in_tree(held_state(state), file, store);
+    let verdict = tree_answer.verdict;
+    Answer {
+        state: lengths(tree_answer.state),
+        refusal: refusal_of(verdict),
+    }
+}
+
+// Hands in an opinion sheet: an accepted one is copied to the front of its store and replaces the one held.
+#[no_mangle]
+pub extern "C" fn nekbrod_hand_in_sheet(state: State, sheet: &[u8], store: &mut [u8]) -> Answer
+    ensures { λ r. ⌜ r ≡ answer-for (sheet-answer (held-of state) (now (sheet .entry)) (now (store .entry))) ⌝ }
+    ensures { λ _. ⌜ now (store .exit) ≡ sheet-store (now (sheet .entry)) (now (store .entry)) ⌝ }
+{
+    let sheet_answer = hand_in_sheet(held_state(state), sheet, store);
+    let verdict = sheet_answer.verdict;
+    Answer {
+        state: lengths(sheet_answer.state),
+        refusal: refusal_of(verdict),
+    }
+}
+
+// Drops both files. The stores' bytes stay.
+#[no_mangle]
+pub extern "C" fn nekbrod_drop_both(state: State) -> State
+    ensures { λ r. ⌜ r ≡ state-of nothing-held ⌝ }
+{
+    let dropped = drop_both(held_state(state));
+    State {
+        tree_len: dropped.tree_len,
+        sheet_len: dropped.sheet_len,
+    }
+}

@@ -1,0 +1,131 @@
+/*
+ * Prints one level of a tree file and an opinion sheet: level TREE SHEET K N
+ *
+ * The line is that of the level printer: k, the lower end in billionths and its mark, the upper end and its mark, where
+ * = is exact and ~ is not. A refusal is printed with its number and place. Exit status: 0 answered, 1 refused, 2 the
+ * arguments are wrong or a file can't be read.
+ *
+ * Build at the repository's root, after rt staticlib capi:
+ *     cc -Iinclude examples/c/level.c target/staticlib/libcapi.a -o level
+ */
+#include <nekbrod.h>
+#include <stdio.h>
+#include <stdlib.h>
+
+enum { ANSWERED = 0, REFUSED = 1, UNUSABLE = 2 };
+
+/* The bytes of a file, whatever its length, and that length. */
+struct file {
+    uint8_t *bytes;
+    size_t len;
+};
+
+/* Everything that the monitor is lent: two stores and three work slices. */
+static uint8_t tree_store[NEKBROD_LARGEST_TREE];
+static uint8_t sheet_store[NEKBROD_LARGEST_SHEET];
+static uint32_t lower[NEKBROD_MOST_NODES];
+static uint32_t upper[NEKBROD_MOST_NODES];
+static uint8_t marks[NEKBROD_MOST_NODES];
+
+static bool read_file(const char *name, struct file *file)
+{
+    FILE *stream = fopen(name, "rb");
+    size_t room = 0;
+    file->bytes = NULL;
+    file->len = 0;
+    if (stream == NULL) {
+        return false;
+    }
+    do {
+        if (file->len == room) {
+            uint8_t *grown = realloc(file->bytes, room + 32768);
+            if (grown == NULL) {
+                fclose(stream);
+                return false;
+            }
+            file->bytes = grown;
+            room += 32768;
+        }
+        file->len += fread(file->bytes + file->len, 1, room - file->len, stream);
+    } while (!feof(stream) && !ferror(stream));
+    bool whole = !ferror(stream);
+    fclose(stream);
+    return whole;
+}
+
+/* Decimal digits alone, for a number of 32 bits. */
+static bool read_number(const char *word, uint32_t *number)
+{
+    uint64_t value = 0;
+    if (*word == '\0') {
+        return false;
+    }
+    for (; *word != '\0'; word++) {
+        if (*word < '0' || '9' < *word) {
+            return false;
+        }
+        value = 10 * value + (uint64_t)(*word - '0');
+        if (UINT32_MAX < value) {
+            return false;
+        }
+    }
+    *number = (uint32_t)value;
+    return true;
+}
+
+static int print_refusal(const char *what, nekbrod_refusal refusal)
+{
+    fprintf(stderr, "%s: refused %zu at %zu\n", what, refusal.number, refusal.place);
+    return REFUSED;
+}
+
+static char mark(bool exact)
+{
+    return exact ? '=' : '~';
+}
+
+/* Holds both files and questions one level. */
+static int print_level(struct file tree, struct file sheet, uint32_t k, uint32_t n)
+{
+    nekbrod_state state = {0, 0};
+    nekbrod_answer answer = nekbrod_hand_in_tree(state, tree.bytes, tree.len, tree_store, sizeof tree_store);
+    if (answer.refusal.number != 0) {
+        return print_refusal("tree", answer.refusal);
+    }
+    answer = nekbrod_hand_in_sheet(answer.state, sheet.bytes, sheet.len, sheet_store, sizeof sheet_store);
+    if (answer.refusal.number != 0) {
+        return print_refusal("sheet", answer.refusal);
+    }
+    nekbrod_reply reply =
+        nekbrod_question(answer.state, tree_store, sizeof tree_store, sheet_store, sizeof sheet_store, k, n, lower,
+                         NEKBROD_MOST_NODES, upper, NEKBROD_MOST_NODES, marks, NEKBROD_MOST_NODES);
+    if (reply.refusal.number != 0) {
+        return print_refusal("level", reply.refusal);
+    }
+    printf("%u %u %c %u %c\n", (unsigned)k, (unsigned)reply.lower, mark(reply.lower_exact), (unsigned)reply.upper,
+           mark(reply.upper_exact));
+    return ANSWERED;
+}
+
+int main(int argc, char **argv)
+{
+    struct file tree, sheet;
+    uint32_t k, n;
+    if (argc != 5 || !read_number(argv[3], &k) || !read_number(argv[4], &n)) {
+        fprintf(stderr, "usage: level TREE SHEET K N, where TREE and SHEET are files and level K of N is asked\n");
+        return UNUSABLE;
+    }
+    if (!read_file(argv[1], &tree)) {
+        fprintf(stderr, "level: can't read %s\n", argv[1]);
+        return UNUSABLE;
+    }
+    if (!read_file(argv[2], &sheet)) {
+        fprintf(stderr, "level: can't read %s\n", argv[2]);
+        free(tree.bytes);
+        return UNUSABLE;
+    }
+    int status = print_level(tree, sheet, k, n);
+    free(tree.bytes);
+    free(sheet.bytes);
+    return status;
+}

@@ -1,0 +1,142 @@
+/*
+ * What the calls answer where slices are null, empty or too short, and that nothing beside a slice is touched: each
+ * slice ends where unmapped memory begins. Prints ok, or each line that fails.
+ *
+ * Build at the repository's root, after rt staticlib capi:
+ *     cc -Iinclude examples/c/short_slices.c target/staticlib/libcapi.a -o short_slices
+ */
+#define _DEFAULT_SOURCE
+#include <nekbrod.h>
+#include <stdio.h>
+#include <stdlib.h>
+#include <string.h>
+#include <sys/mman.h>
+#include <unistd.h>
+
+/* Tree 7: one basic event; and its sheet: the entry (0, 1, 1, 2). */
+static const uint8_t TREE[14] = {'F', 'T', 'F', 1, 0, 7, 0, 1, 0};
+static const uint8_t SHEET[43] = {'F', 'T', 'S', 1, 0, 7, 0, 1, [31] = 1, [35] = 1, [39] = 2};
+
+static const nekbrod_state NOTHING = {0, 0};
+static const nekbrod_state BOTH = {sizeof TREE, sizeof SHEET};
+
+static int failures = 0;
+
+static void expect(bool holds, int line)
+{
+    if (!holds) {
+        printf("short_slices.c:%d: failed\n", line);
+        failures++;
+    }
+}
+#define EXPECT(holds) expect(holds, __LINE__)
+
+/* That many bytes, all filled, the byte after the last one unmapped. */
+static uint8_t *at_the_edge(size_t len)
+{
+    size_t page = (size_t)sysconf(_SC_PAGESIZE);
+    uint8_t *pages = mmap(NULL, 2 * page, PROT_READ | PROT_WRITE, MAP_PRIVATE | MAP_ANONYMOUS, -1, 0);
+    if (pages == MAP_FAILED || mprotect(pages + page, page, PROT_NONE) != 0) {
+        perror("short_slices");
+        exit(2);
+    }
+    memset(pages, 0xee, page);
+    return pages + page - len;
+}
+
+static uint8_t *copy_at_the_edge(const uint8_t *bytes, size_t len)
+{
+    return memcpy(at_the_edge(len), bytes, len);
+}
+
+static bool filled(const void *memory, size_t len)
+{
+    const uint8_t *bytes = memory;
+    for (size_t i = 0; i < len; i++) {
+        if (bytes[i] != 0xee) {
+            return false;
+        }
+    }
+    return true;
+}
+
+static bool refused(nekbrod_refusal refusal, size_t number, size_t place)
+{
+    return refusal.number == number && refusal.place == place;
+}
+
+static bool same(nekbrod_state one, nekbrod_state other)
+{
+    return one.tree_len == other.tree_len && one.sheet_len == other.sheet_len;
+}
+
+static void hand_in_short(void)
+{
+    uint8_t *tree = copy_at_the_edge(TREE, sizeof TREE), *sheet = copy_at_the_edge(SHEET, sizeof SHEET);
+    uint8_t *store = at_the_edge(13);
+    nekbrod_answer answer = nekbrod_hand_in_tree(BOTH, NULL, 0, NULL, 0);
+    EXPECT(refused(answer.refusal, 1, 0) && same(answer.state, BOTH));
+    answer = nekbrod_hand_in_sheet(BOTH, NULL, 0, NULL, 0);
+    EXPECT(refused(answer.refusal, 1, 0) && same(answer.state, BOTH));
+    answer = nekbrod_hand_in_tree(BOTH, tree, 8, NULL, 0);
+    EXPECT(refused(answer.refusal, 1, 8) && same(answer.state, BOTH));
+    answer = nekbrod_hand_in_tree(NOTHING, tree, sizeof TREE, NULL, 0);
+    EXPECT(refused(answer.refusal, 20, 0) && same(answer.state, NOTHING));
+    answer = nekbrod_hand_in_sheet(NOTHING, sheet, sizeof SHEET, NULL, 0);
+    EXPECT(refused(answer.refusal, 20, 0) && same(answer.state, NOTHING));
+    answer = nekbrod_hand_in_tree(NOTHING, tree, sizeof TREE, store, 13);
+    EXPECT(refused(answer.refusal, 20, 0) && same(answer.state, NOTHING) && filled(store, 13));
+}
+
+static void judge_short(void)
+{
+    uint8_t *tree = copy_at_the_edge(TREE, sizeof TREE), *sheet = copy_at_the_edge(SHEET, sizeof SHEET);
+    nekbrod_state tree_alone = {sizeof TREE, 0};
+    EXPECT(refused(nekbrod_judge(NOTHING, NULL, 0, NULL, 0, 1, 0).refusal, 13, 0));
+    EXPECT(refused(nekbrod_judge(NOTHING, NULL, 0, NULL, 0, 1, 2).refusal, 21, 0));
+    EXPECT(refused(nekbrod_judge(tree_alone, NULL, 0, NULL, 0, 1, 2).refusal, 22, 0));
+    EXPECT(refused(nekbrod_judge(BOTH, NULL, 0, NULL, 0, 1, 2).refusal, 23, 0));
+    EXPECT(refused(nekbrod_judge(BOTH, tree, sizeof TREE - 1, sheet, sizeof SHEET, 1, 2).refusal, 23, 0));
+    EXPECT(refused(nekbrod_judge(BOTH, tree, sizeof TREE, NULL, 0, 1, 2).refusal, 23, 1));
+    nekbrod_standing standing = nekbrod_judge(BOTH, tree, sizeof TREE, sheet, sizeof SHEET, 1, 2);
+    EXPECT(refused(standing.refusal, 0, 0) && standing.nodes == 1 && standing.events == 1);
+    EXPECT(same(nekbrod_drop_both(BOTH), NOTHING));
+}
+
+/* A question of the held pair with work slices of these places; each is there, or null where it has none. */
+static nekbrod_reply question(uint32_t *lower, size_t lowers, uint32_t *upper, size_t uppers, uint8_t *marks,
+                              size_t bytes)
+{
+    uint8_t *tree = copy_at_the_edge(TREE, sizeof TREE), *sheet = copy_at_the_edge(SHEET, sizeof SHEET);
+    return nekbrod_question(BOTH, tree, sizeof TREE, sheet, sizeof SHEET, 1, 2, lowers == 0 ? NULL : lower, lowers,
+                            uppers == 0 ? NULL : upper, uppers, bytes == 0 ? NULL : marks, bytes);
+}
+
+static void question_short(void)
+{
+    uint32_t *lower = (uint32_t *)(void *)at_the_edge(4), *upper = (uint32_t *)(void *)at_the_edge(4);
+    uint8_t *marks = at_the_edge(1);
+    nekbrod_reply reply = nekbrod_question(NOTHING, NULL, 0, NULL, 0, 1, 2, NULL, 0, NULL, 0, NULL, 0);
+    EXPECT(refused(reply.refusal, 21, 0) && same(reply.state, NOTHING));
+    for (int kept = 0; kept < 7; kept++) {
+        reply = question(lower, kept & 1, upper, kept >> 1 & 1, marks, kept >> 2 & 1);
+        EXPECT(refused(reply.refusal, 25, 0) && same(reply.state, BOTH));
+        EXPECT(reply.lower == 0 && reply.upper == NEKBROD_ONE && !reply.lower_exact && !reply.upper_exact);
+        EXPECT(reply.events == 0 && filled(lower, 4) && filled(upper, 4) && filled(marks, 1));
+    }
+    reply = question(lower, 1, upper, 1, marks, 1);
+    EXPECT(refused(reply.refusal, 0, 0) && same(reply.state, BOTH) && reply.events == 1);
+    EXPECT(reply.lower == 0 && reply.upper == 2 && !reply.lower_exact && !reply.upper_exact);
+    EXPECT(*lower == 0 && *upper == 2 && *marks == 0);
+}
+
+int main(void)
+{
+    hand_in_short();
+    judge_short();
+    question_short();
+    if (failures == 0) {
+        printf("ok\n");
+    }
+    return failures == 0 ? 0 : 1;
+}

@@ -1,0 +1,154 @@
+/*
+ * Nekbrod, a proved risk monitor for fault trees: the calls for C and C++.
+ *
+ * The monitor holds one tree file and one opinion sheet and answers a level with an enclosure of the top probability.
+ * It has no memory of its own: what it holds is two lengths, which the caller keeps between calls, and the bytes of
+ * both files, which lie in two stores that the caller lends at each call. Calls that write to different memory may run
+ * at the same time.
+ *
+ * Each function is proved to answer and to write what is said here for every content of the memory it is lent
+ * (docs/PROMISES.md). That memory is the caller's part, and nothing checks it:
+ * - a pointer and the length after it name that many readable places (writable, where the pointer is not to const);
+ * - memory that a call writes overlaps nothing else that the same call is lent;
+ * - nothing else writes to lent memory during the call.
+ * A slice of length 0 may have the null pointer: it is a short one, and nothing is read or written through it.
+ *
+ * Build: rt staticlib capi, then link target/staticlib/libcapi.a (x86-64 Linux).
+ */
+#ifndef NEKBROD_H
+#define NEKBROD_H
+
+#include <stdbool.h>
+#include <stddef.h>
+#include <stdint.h>
+
+#ifdef __cplusplus
+extern "C" {
+#endif
+
+/* Ends are counted in units: one unit is a billionth, so this is the probability 1. */
+#define NEKBROD_ONE 1000000000u
+/* No accepted tree file and no accepted opinion sheet is longer: stores of these lengths never cause refusal 20. */
+#define NEKBROD_LARGEST_TREE 7175u
+#define NEKBROD_LARGEST_SHEET 17434u
+/* No accepted tree has more nodes: work slices of this many places never cause refusal 25. */
+#define NEKBROD_MOST_NODES 1024u
+/* Bits of a mark byte: the node's lower end is exact, its upper end is exact. */
+#define NEKBROD_LOWER_EXACT 1u
+#define NEKBROD_UPPER_EXACT 2u
+
+/*
+ * What is held: the lengths in bytes of the tree file and of the opinion sheet, each 0 where none is held. It goes into
+ * each call and comes back from each that can change it. A monitor that holds nothing starts with {0, 0}.
+ */
+typedef struct nekbrod_state {
+    size_t tree_len;
+    size_t sheet_len;
+} nekbrod_state;
+
+/*
+ * Why a call was refused. Number 0: it was not refused, and the place is 0. A refused call changes no state, no store
+ * and no slice. An offset is in bytes from 0 in the file handed in.
+ *
+ *   number                                                      place
+ *    1  the file is shorter than its header (tree 9, sheet 26)   the file's length
+ *    2  wrong letters at the front                               0
+ *    3  the version is not 1                                     3
+ *    4  the count of nodes, events or experts is out of range    7; 7; 9
+ *    5  the length is not as the counts require                  the file's length
+ *    6  unknown kind of record or entry                          offset of its byte
+ *    7  a wrong field of a record                                offset of the record
+ *       the inputs of all gates are too few                      offset of the first link
+ *       a score out of rule                                      offset of the score
+ *    8  a link that is not below its gate                        offset of the link
+ *    9  a node that is linked a second time                      offset of the second link
+ *   10  four numbers out of order or above 1                     offset of the entry
+ *   11  a term above 7, or not 0 after the last expert           offset of the term
+ *   12  an opinion entry in which nobody spoke                   offset of the entry
+ *   13  the level is out of range                                0
+ *   20  the store is shorter than the accepted file              0
+ *   21  no tree is held                                          0
+ *   22  no sheet is held                                         0
+ *   23  held bytes are no longer an accepted file, or the        0 for the tree, 1 for the sheet
+ *       held length is beyond the store
+ *   24  the sheet is for another tree, or not for its events     0
+ *   25  a work slice is shorter than the tree has nodes          0
+ */
+typedef struct nekbrod_refusal {
+    size_t number;
+    size_t place;
+} nekbrod_refusal;
+
+/* What a hand-in answers: the state after it, and the refusal. */
+typedef struct nekbrod_answer {
+    nekbrod_state state;
+    nekbrod_refusal refusal;
+} nekbrod_answer;
+
+/* What judging answers: the refusal, and the nodes and basic events of the held tree, both 0 where it is refused. */
+typedef struct nekbrod_standing {
+    nekbrod_refusal refusal;
+    size_t nodes;
+    size_t events;
+} nekbrod_standing;
+
+/*
+ * What a question answers: the state, as it went in; the refusal; the root's lower and upper end in units, whether each
+ * is the exact one, and the number of basic events E. An end that is not exact lies outward of the exact one, by less
+ * than 2 * E - 1 units. Refused, the reply has the enclosure that says nothing, 0 to NEKBROD_ONE with neither end
+ * exact, and its events are 0.
+ */
+typedef struct nekbrod_reply {
+    nekbrod_state state;
+    nekbrod_refusal refusal;
+    uint32_t lower;
+    uint32_t upper;
+    bool lower_exact;
+    bool upper_exact;
+    size_t events;
+} nekbrod_reply;
+
+/*
+ * Hands in a tree file.
+ * Reads file[0 .. file_len). Accepted, it is copied to the front of the store, the rest of the store stays, and the
+ * state holds it in place of the one before, beside the sheet as before. Refused by 1 to 9, or by 20, in that order.
+ */
+nekbrod_answer nekbrod_hand_in_tree(nekbrod_state state, const uint8_t *file, size_t file_len, uint8_t *tree_store,
+                                    size_t tree_store_len);
+
+/*
+ * Hands in an opinion sheet.
+ * Reads sheet[0 .. sheet_len). Accepted, it is copied to the front of the store, the rest of the store stays, and the
+ * state holds it in place of the one before, beside the tree as before. Refused by 1 to 7, 10 to 12, or by 20.
+ */
+nekbrod_answer nekbrod_hand_in_sheet(nekbrod_state state, const uint8_t *sheet, size_t sheet_len, uint8_t *sheet_store,
+                                     size_t sheet_store_len);
+
+/* Drops both files: the state that holds nothing. Reads and writes no store, and is never refused. */
+nekbrod_state nekbrod_drop_both(nekbrod_state state);
+
+/*
+ * Judges whether level k of n can be put to the held pair, and writes nothing. n is 1 to 1000 and k is 0 to n.
+ * Reads both stores as far as the held lengths: both files are judged afresh, as their bytes stand.
+ * Refused by 13, 21, 22, 23 for the tree, 23 for the sheet, or 24, in that order.
+ */
+nekbrod_standing nekbrod_judge(nekbrod_state state, const uint8_t *tree_store, size_t tree_store_len,
+                               const uint8_t *sheet_store, size_t sheet_store_len, uint32_t k, uint32_t n);
+
+/*
+ * Questions level k of n. Judges and reads as nekbrod_judge does, refused as it is, and by 25 after all else.
+ * Answered, it writes for each node i of the held tree lower[i] and upper[i], the node's ends in units, and marks[i],
+ * NEKBROD_LOWER_EXACT plus NEKBROD_UPPER_EXACT as these ends are exact; the root is the last node. Places from the
+ * number of nodes on stay. Whatever probability each basic event has inside its cut, the top probability lies from
+ * reply.lower to reply.upper.
+ */
+nekbrod_reply nekbrod_question(nekbrod_state state, const uint8_t *tree_store, size_t tree_store_len,
+                               const uint8_t *sheet_store, size_t sheet_store_len, uint32_t k, uint32_t n,
+                               uint32_t *lower, size_t lower_len, uint32_t *upper, size_t upper_len, uint8_t *marks,
+                               size_t marks_len);
+
+#ifdef __cplusplus
+}
+#endif
+
+#endif
