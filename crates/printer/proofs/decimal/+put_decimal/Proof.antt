@@ -40,7 +40,7 @@ put-decimal-slice-write-draft : (t : ℕ) → put-decimal-lts.Need-slice-write-d
   put-decimal-below t,
   put-decimal.Post,
 ) (put-decimal-at t) put-decimal.Post
-put-decimal-slice-write-draft t c = search (needs, one-inside)
+put-decimal-slice-write-draft t c = search one-inside
 
 -- src/decimal.rt:22:16
 put-decimal-add-result : (t : ℕ) → put-decimal-lts.Need-add-result (
@@ -67,7 +67,7 @@ put-decimal-returns : (t : ℕ) → put-decimal-lts.Need-returns (
   put-decimal-below t,
   put-decimal.Post,
 ) (put-decimal-at t) put-decimal.Post
-put-decimal-returns t c = search (needs, one-put)
+put-decimal-returns t c = search one-put
 
 -- src/decimal.rt:24:9
 put-decimal-put-decimal-requires : (t : ℕ) → put-decimal-lts.Need-put-decimal-requires (
@@ -94,7 +94,7 @@ put-decimal-slice-write-draft-2 : (t : ℕ) → put-decimal-lts.Need-slice-write
   put-decimal-below t,
   put-decimal.Post,
 ) (put-decimal-at t) put-decimal.Post
-put-decimal-slice-write-draft-2 t c = search (needs, last-inside)
+put-decimal-slice-write-draft-2 t c = search last-inside
 
 -- src/decimal.rt:26:5
 put-decimal-add-result-2 : (t : ℕ) → put-decimal-lts.Need-add-result-2 (
@@ -103,7 +103,7 @@ put-decimal-add-result-2 : (t : ℕ) → put-decimal-lts.Need-add-result-2 (
   put-decimal-below t,
   put-decimal.Post,
 ) (put-decimal-at t) put-decimal.Post
-put-decimal-add-result-2 t c = search (needs, last-within)
+put-decimal-add-result-2 t c = search last-within
 
 -- src/decimal.rt:16:1
 put-decimal-same-length-2 : (t : ℕ) → put-decimal-lts.Need-same-length-2 (
@@ -121,7 +121,7 @@ put-decimal-returns-2 : (t : ℕ) → put-decimal-lts.Need-returns-2 (
   put-decimal-below t,
   put-decimal.Post,
 ) (put-decimal-at t) put-decimal.Post
-put-decimal-returns-2 t c = search (needs, last-put)
+put-decimal-returns-2 t c = search last-put
 
 pub +put-decimal-spec : {M : Type 1} → statement M
 +put-decimal-spec = close μ-put-decimal λ t. put-decimal-lts.spec (

@@ -10,11 +10,11 @@ use Rattle.printer.proofs.field.put_number.Reads as put-number-reads
 
 -- src/field.rt:69:9
 put-number-requires : tie.Need-put-number-requires
-put-number-requires c κs = search (needs, first-room)
+put-number-requires c κs = search first-room
 
 -- src/field.rt:70:5
 put-mark-requires : tie.Need-put-mark-requires
-put-mark-requires c κs = search (needs, next-room)
+put-mark-requires c κs = search next-room
 
 -- src/field.rt:64:1
 same-length : tie.Need-same-length
@@ -22,7 +22,7 @@ same-length c = search needs
 
 -- src/field.rt:64:1
 returns : tie.Need-returns
-returns c = search (needs, both-put)
+returns c = search both-put
 
 pub put-end-spec : {M : Type 1} → statement M
 put-end-spec = tie.close (tie.spec put-number-requires put-mark-requires same-length returns)

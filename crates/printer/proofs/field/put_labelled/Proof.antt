@@ -10,11 +10,11 @@ use Rattle.printer.proofs.field.put_word.Reads as put-word-reads
 
 -- src/field.rt:59:9
 put-word-requires : tie.Need-put-word-requires
-put-word-requires c κs = search (needs, first-room)
+put-word-requires c κs = search first-room
 
 -- src/field.rt:60:5
 put-number-requires : tie.Need-put-number-requires
-put-number-requires c κs = search (needs, next-room)
+put-number-requires c κs = search next-room
 
 -- src/field.rt:54:1
 same-length : tie.Need-same-length
@@ -22,7 +22,7 @@ same-length c = search needs
 
 -- src/field.rt:54:1
 returns : tie.Need-returns
-returns c = search (needs, both-put)
+returns c = search both-put
 
 pub put-labelled-spec : {M : Type 1} → statement M
 put-labelled-spec = tie.close (tie.spec put-word-requires put-number-requires same-length returns)

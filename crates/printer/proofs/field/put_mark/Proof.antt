@@ -21,7 +21,7 @@ add-draft c = search needs
 
 -- src/field.rt:46:5
 slice-write-draft-2 : tie.Need-slice-write-draft-2
-slice-write-draft-2 c = search (needs, mark-inside)
+slice-write-draft-2 c = search mark-inside
 
 -- src/field.rt:47:5
 add-result : tie.Need-add-result
@@ -33,7 +33,7 @@ same-length c = search needs
 
 -- src/field.rt:41:1
 returns : tie.Need-returns
-returns c = search (needs, mark-ended)
+returns c = search mark-ended
 
 pub put-mark-spec : {M : Type 1} → statement M
 put-mark-spec =

@@ -9,15 +9,15 @@ use Rattle.printer.proofs.decimal.put_decimal.Reads as put-decimal-read
 
 -- src/field.rt:14:9
 put-decimal-requires : tie.Need-put-decimal-requires
-put-decimal-requires c κs = search (needs, field-room)
+put-decimal-requires c κs = search field-room
 
 -- src/field.rt:15:5
 slice-write-draft : tie.Need-slice-write-draft
-slice-write-draft c = search (needs, after-inside)
+slice-write-draft c = search after-inside
 
 -- src/field.rt:16:5
 add-result : tie.Need-add-result
-add-result c = search (needs, after-within)
+add-result c = search after-within
 
 -- src/field.rt:10:1
 same-length : tie.Need-same-length
@@ -25,7 +25,7 @@ same-length c = search needs
 
 -- src/field.rt:10:1
 returns : tie.Need-returns
-returns c = search (needs, after-put)
+returns c = search after-put
 
 pub put-number-spec : {M : Type 1} → statement M
 put-number-spec =

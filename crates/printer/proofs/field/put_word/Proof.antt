@@ -21,7 +21,7 @@ part-copy-end c = search needs
 
 -- src/field.rt:24:9
 copy-requires : tie.Need-copy-requires
-copy-requires c κs = search (needs, word-fits)
+copy-requires c κs = search word-fits
 
 -- src/field.rt:25:15
 add-end : tie.Need-add-end
@@ -29,7 +29,7 @@ add-end c = search needs
 
 -- src/field.rt:26:5
 slice-write-draft : tie.Need-slice-write-draft
-slice-write-draft c = search (needs, word-inside)
+slice-write-draft c = search word-inside
 
 -- src/field.rt:27:5
 add-result : tie.Need-add-result
@@ -41,7 +41,7 @@ same-length c = search needs
 
 -- src/field.rt:20:1
 returns : tie.Need-returns
-returns c = search (needs, word-ended)
+returns c = search word-ended
 
 pub put-word-spec : {M : Type 1} → statement M
 put-word-spec =

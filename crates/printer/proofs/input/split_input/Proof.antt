@@ -10,7 +10,7 @@ use Rattle.tree_file.proofs.format.field_at.Reads as field-at-reads
 
 -- src/input.rt:32:9
 returns : tie.Need-returns
-returns c = search (needs, too-few)
+returns c = search too-few
 
 -- src/input.rt:34:9
 field-at-requires : tie.Need-field-at-requires
@@ -26,15 +26,15 @@ required-length-requires c κs = search needs
 
 -- src/input.rt:38:9
 returns-2 : tie.Need-returns-2
-returns-2 c = search (needs, other-length)
+returns-2 c = search other-length
 
 -- src/input.rt:41:9
 returns-3 : tie.Need-returns-3
-returns-3 c = search (needs, tree-long)
+returns-3 c = search tree-long
 
 -- src/input.rt:44:9
 returns-4 : tie.Need-returns-4
-returns-4 c = search (needs, sheet-long)
+returns-4 c = search sheet-long
 
 -- src/input.rt:47:12
 field-at-requires-3 : tie.Need-field-at-requires-3
@@ -50,7 +50,7 @@ add-t8 c = search needs
 
 -- src/input.rt:28:1
 returns-5 : tie.Need-returns-5
-returns-5 c = search (needs, both-right)
+returns-5 c = search both-right
 
 pub split-input-spec : {M : Type 1} → statement M
 split-input-spec =

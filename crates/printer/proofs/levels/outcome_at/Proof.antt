@@ -25,7 +25,7 @@ question-requires c κs = search needs
 
 -- src/levels.rt:15:1
 returns : tie.Need-returns
-returns c = search (needs, outcome-read)
+returns c = search outcome-read
 
 pub outcome-at-spec : {M : Type 1} → statement M
 outcome-at-spec =

@@ -22,7 +22,7 @@ enum-told c = search needs
 
 -- src/levels.rt:54:9
 returns : tie.Need-returns
-returns c = absurd (search (needs, refused-never))
+returns c = absurd (search refused-never)
 
 -- src/levels.rt:56:5
 put-level-requires : tie.Need-put-level-requires
@@ -34,7 +34,7 @@ same-length c = search needs
 
 -- src/levels.rt:35:1
 returns-2 : tie.Need-returns-2
-returns-2 c = search (needs, line-met)
+returns-2 c = search line-met
 
 pub put-level-at-spec : {M : Type 1} → statement M
 put-level-at-spec =

@@ -17,11 +17,11 @@ abbrev μ-loop : tie.MeasureT-loop
 
 -- src/levels.rt:75:20
 add-left : tie.Need-add-left Inv-loop μ-loop
-add-left c = search (needs, count-fits)
+add-left c = search count-fits
 
 -- src/levels.rt:76:5
 loop-holds : tie.Need-loop-holds Inv-loop μ-loop
-loop-holds c = search (needs, printing-starts)
+loop-holds c = search printing-starts
 
 -- src/levels.rt:77:9
 sub-left : tie.Need-sub-left Inv-loop μ-loop
@@ -29,7 +29,7 @@ sub-left c = search needs
 
 -- src/levels.rt:78:9
 put-level-at-requires : tie.Need-put-level-at-requires Inv-loop μ-loop
-put-level-at-requires c κs = search (needs, line-room, level-most)
+put-level-at-requires c κs = search (line-room, level-most)
 
 -- src/levels.rt:76:5
 loop-less : tie.Need-loop-less Inv-loop μ-loop
@@ -37,7 +37,7 @@ loop-less c = search needs
 
 -- src/levels.rt:76:5
 loop-again : tie.Need-loop-again Inv-loop μ-loop
-loop-again c = search (needs, printing-goes)
+loop-again c = search printing-goes
 
 -- src/levels.rt:60:1
 same-length : tie.Need-same-length Inv-loop μ-loop
@@ -45,7 +45,7 @@ same-length c = search needs
 
 -- src/levels.rt:60:1
 returns : tie.Need-returns Inv-loop μ-loop
-returns c = search (needs, printing-ends)
+returns c = search printing-ends
 
 pub put-levels-spec : {M : Type 1} → statement M
 put-levels-spec =

@@ -13,7 +13,7 @@ slice-aggregate-put-labelled c = search needs
 
 -- src/line.rt:44:9
 put-labelled-requires : tie.Need-put-labelled-requires
-put-labelled-requires c κs = search (needs, counts-room)
+put-labelled-requires c κs = search counts-room
 
 -- src/line.rt:45:18
 slice-aggregate-put-labelled-2 : tie.Need-slice-aggregate-put-labelled-2
@@ -21,7 +21,7 @@ slice-aggregate-put-labelled-2 c = search needs
 
 -- src/line.rt:45:5
 put-labelled-requires-2 : tie.Need-put-labelled-requires-2
-put-labelled-requires-2 c κs = search (needs, counts-next)
+put-labelled-requires-2 c κs = search counts-next
 
 -- src/line.rt:40:1
 same-length : tie.Need-same-length
@@ -29,7 +29,7 @@ same-length c = search needs
 
 -- src/line.rt:40:1
 returns : tie.Need-returns
-returns c = search (needs, counts-put, counts-end)
+returns c = search (counts-put, counts-end)
 
 pub put-counts-spec : {M : Type 1} → statement M
 put-counts-spec =

@@ -13,7 +13,7 @@ cast-put-end c = search needs
 
 -- src/line.rt:62:9
 put-end-requires : tie.Need-put-end-requires
-put-end-requires c κs = search (needs, lower-room)
+put-end-requires c κs = search lower-room
 
 -- src/line.rt:70:9
 cast-put-end-2 : tie.Need-cast-put-end-2
@@ -21,7 +21,7 @@ cast-put-end-2 c = search needs
 
 -- src/line.rt:69:5
 put-end-requires-2 : tie.Need-put-end-requires-2
-put-end-requires-2 c κs = search (needs, upper-room)
+put-end-requires-2 c κs = search upper-room
 
 -- src/line.rt:58:1
 same-length : tie.Need-same-length
@@ -29,7 +29,7 @@ same-length c = search needs
 
 -- src/line.rt:58:1
 returns : tie.Need-returns
-returns c = search (needs, ends-put, ends-end)
+returns c = search (ends-put, ends-end)
 
 pub put-ends-spec : {M : Type 1} → statement M
 put-ends-spec =

@@ -14,11 +14,11 @@ slice-aggregate-put-labelled c = search needs
 
 -- src/line.rt:53:9
 put-labelled-requires : tie.Need-put-labelled-requires
-put-labelled-requires c κs = search (needs, header-room)
+put-labelled-requires c κs = search header-room
 
 -- src/line.rt:54:5
 put-counts-requires : tie.Need-put-counts-requires
-put-counts-requires c κs = search (needs, header-next)
+put-counts-requires c κs = search header-next
 
 -- src/line.rt:49:1
 same-length : tie.Need-same-length
@@ -26,7 +26,7 @@ same-length c = search needs
 
 -- src/line.rt:49:1
 returns : tie.Need-returns
-returns c = search (needs, header-put, header-end)
+returns c = search (header-put, header-end)
 
 pub put-header-spec : {M : Type 1} → statement M
 put-header-spec =

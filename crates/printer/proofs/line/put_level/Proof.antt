@@ -10,11 +10,11 @@ use Rattle.printer.proofs.line.put_ends.Reads as put-ends-reads
 
 -- src/line.rt:83:9
 put-number-requires : tie.Need-put-number-requires
-put-number-requires c κs = search (needs, level-room)
+put-number-requires c κs = search level-room
 
 -- src/line.rt:84:5
 put-ends-requires : tie.Need-put-ends-requires
-put-ends-requires c κs = search (needs, level-next)
+put-ends-requires c κs = search level-next
 
 -- src/line.rt:79:1
 same-length : tie.Need-same-length
@@ -22,7 +22,7 @@ same-length c = search needs
 
 -- src/line.rt:79:1
 returns : tie.Need-returns
-returns c = search (needs, level-put, level-end)
+returns c = search (level-put, level-end)
 
 pub put-level-spec : {M : Type 1} → statement M
 put-level-spec = tie.close (tie.spec put-number-requires put-ends-requires same-length returns)

@@ -23,7 +23,7 @@ slice-aggregate-put-labelled c = search needs
 
 -- src/line.rt:35:9
 put-labelled-requires : tie.Need-put-labelled-requires
-put-labelled-requires c κs = search (needs, refusal-room)
+put-labelled-requires c κs = search refusal-room
 
 -- src/line.rt:36:18
 slice-aggregate-put-labelled-2 : tie.Need-slice-aggregate-put-labelled-2
@@ -31,7 +31,7 @@ slice-aggregate-put-labelled-2 c = search needs
 
 -- src/line.rt:36:5
 put-labelled-requires-2 : tie.Need-put-labelled-requires-2
-put-labelled-requires-2 c κs = search (needs, refusal-next)
+put-labelled-requires-2 c κs = search refusal-next
 
 -- src/line.rt:29:1
 same-length : tie.Need-same-length
@@ -39,7 +39,7 @@ same-length c = search needs
 
 -- src/line.rt:29:1
 returns : tie.Need-returns
-returns c = search (needs, refusal-put)
+returns c = search refusal-put
 
 pub put-refusal-spec : {M : Type 1} → statement M
 put-refusal-spec =

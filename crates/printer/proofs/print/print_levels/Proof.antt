@@ -20,19 +20,19 @@ put-text-requires c κs = search needs
 -- src/print.rt:105:9
 returns : tie.Need-returns
 returns c =
-    (search (needs, too-short-answer), (search (needs, too-short-buffer), search (needs, text-most)))
+    (search too-short-answer, (search too-short-buffer, search text-most))
 
 -- src/print.rt:107:17
 array-share-prefix-draft : tie.Need-array-share-prefix-draft
-array-share-prefix-draft c = search (needs, text-inside)
+array-share-prefix-draft c = search text-inside
 
 -- src/print.rt:107:17
 slice-aggregate-copy : tie.Need-slice-aggregate-copy
-slice-aggregate-copy c = search (needs, front-counted)
+slice-aggregate-copy c = search front-counted
 
 -- src/print.rt:107:5
 copy-requires : tie.Need-copy-requires
-copy-requires c κs = search (needs, front-fits)
+copy-requires c κs = search front-fits
 
 -- src/print.rt:97:1
 same-length : tie.Need-same-length
@@ -41,7 +41,7 @@ same-length c = search needs
 -- src/print.rt:97:1
 returns-2 : tie.Need-returns-2
 returns-2 c =
-    (search (needs, complete-answer), (search (needs, complete-buffer), search (needs, text-most)))
+    (search complete-answer, (search complete-buffer, search text-most))
 
 pub print-levels-spec : {M : Type 1} → statement M
 print-levels-spec =

@@ -29,7 +29,7 @@ enum-known-standing-2 c = search needs
 
 -- src/print.rt:39:17
 field-at-requires : tie.Need-field-at-requires
-field-at-requires c κs = search (needs, number-inside)
+field-at-requires c κs = search number-inside
 
 -- src/print.rt:40:17
 put-header-requires : tie.Need-put-header-requires
@@ -37,7 +37,7 @@ put-header-requires c κs = search needs
 
 -- src/print.rt:41:13
 put-levels-requires : tie.Need-put-levels-requires
-put-levels-requires c κs = search (needs, ready-at, levels-room)
+put-levels-requires c κs = search (ready-at, levels-room)
 
 -- src/print.rt:30:1
 same-length : tie.Need-same-length
@@ -45,7 +45,7 @@ same-length c = search needs
 
 -- src/print.rt:30:1
 returns : tie.Need-returns
-returns c = search (needs, question-refused)
+returns c = search question-refused
 
 -- src/print.rt:30:1
 same-length-2 : tie.Need-same-length-2
@@ -53,7 +53,7 @@ same-length-2 c = search needs
 
 -- src/print.rt:30:1
 returns-2 : tie.Need-returns-2
-returns-2 c = search (needs, levels-put)
+returns-2 c = search levels-put
 
 pub put-held-spec : {M : Type 1} → statement M
 put-held-spec =

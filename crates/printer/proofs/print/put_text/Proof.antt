@@ -31,27 +31,27 @@ same-length c = search needs
 
 -- src/print.rt:90:9
 returns : tie.Need-returns
-returns c = search (needs, input-put)
+returns c = search input-put
 
 -- src/print.rt:93:19
 sub-put-with-both : tie.Need-sub-put-with-both
-sub-put-with-both c = search (needs, tree-begins)
+sub-put-with-both c = search tree-begins
 
 -- src/print.rt:93:19
 part-put-with-both-start : tie.Need-part-put-with-both-start
-part-put-with-both-start c = search (needs, tree-begins)
+part-put-with-both-start c = search tree-begins
 
 -- src/print.rt:93:19
 part-put-with-both-end : tie.Need-part-put-with-both-end
-part-put-with-both-end c = search (needs, tree-inside)
+part-put-with-both-end c = search tree-inside
 
 -- src/print.rt:93:35
 sub-put-with-both-2 : tie.Need-sub-put-with-both-2
-sub-put-with-both-2 c = search (needs, tree-inside)
+sub-put-with-both-2 c = search tree-inside
 
 -- src/print.rt:93:35
 part-put-with-both-start-2 : tie.Need-part-put-with-both-start-2
-part-put-with-both-start-2 c = search (needs, tree-inside)
+part-put-with-both-start-2 c = search tree-inside
 
 -- src/print.rt:93:35
 part-put-with-both-end-2 : tie.Need-part-put-with-both-end-2
@@ -59,7 +59,7 @@ part-put-with-both-end-2 c = search needs
 
 -- src/print.rt:93:5
 put-with-both-requires : tie.Need-put-with-both-requires
-put-with-both-requires c κs = search (needs, tree-short, sheet-short)
+put-with-both-requires c κs = search (tree-short, sheet-short)
 
 -- src/print.rt:84:1
 same-length-2 : tie.Need-same-length-2
@@ -67,7 +67,7 @@ same-length-2 c = search needs
 
 -- src/print.rt:84:1
 returns-2 : tie.Need-returns-2
-returns-2 c = search (needs, parts-put)
+returns-2 c = search parts-put
 
 pub put-text-spec : {M : Type 1} → statement M
 put-text-spec =

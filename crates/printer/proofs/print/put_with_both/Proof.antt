@@ -31,7 +31,7 @@ same-length c = search needs
 
 -- src/print.rt:78:9
 returns : tie.Need-returns
-returns c = search (needs, tree-refused)
+returns c = search tree-refused
 
 enum-told : tie.Need-enum-told
 enum-told c = search needs
@@ -50,7 +50,7 @@ same-length-2 c = search needs
 
 -- src/print.rt:63:1
 returns-2 : tie.Need-returns-2
-returns-2 c = search (needs, tree-held)
+returns-2 c = search tree-held
 
 pub put-with-both-spec : {M : Type 1} → statement M
 put-with-both-spec =

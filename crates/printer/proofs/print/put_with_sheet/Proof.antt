@@ -31,7 +31,7 @@ same-length c = search needs
 
 -- src/print.rt:57:9
 returns : tie.Need-returns
-returns c = search (needs, sheet-refused)
+returns c = search sheet-refused
 
 enum-told : tie.Need-enum-told
 enum-told c = search needs
@@ -50,7 +50,7 @@ same-length-2 c = search needs
 
 -- src/print.rt:47:1
 returns-2 : tie.Need-returns-2
-returns-2 c = search (needs, sheet-held)
+returns-2 c = search sheet-held
 
 pub put-with-sheet-spec : {M : Type 1} → statement M
 put-with-sheet-spec =
