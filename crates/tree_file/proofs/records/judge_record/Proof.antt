@@ -19,7 +19,7 @@ kind-at-requires : tie.Need-kind-at-requires
 kind-at-requires c κs = search needs
 
 returns : tie.Need-returns
-returns c = search (needs, unknown)
+returns c = search unknown
 
 field-a-at-requires : tie.Need-field-a-at-requires
 field-a-at-requires c κs = search needs
@@ -43,10 +43,10 @@ tested c =
     (c .if2 .came)
 
 returns-2 : tie.Need-returns-2
-returns-2 c = let found = tested (c .before) in search (needs, record-wrong)
+returns-2 c = let found = tested (c .before) in search record-wrong
 
 returns-3 : tie.Need-returns-3
-returns-3 c = let found = tested (c .before) in search (needs, record-free)
+returns-3 c = let found = tested (c .before) in search record-free
 
 pub judge-record-spec : {M : Type 1} → statement M
 judge-record-spec =
