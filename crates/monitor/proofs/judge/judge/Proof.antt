@@ -10,13 +10,13 @@ level-good-requires : tie.Need-level-good-requires
 level-good-requires c κs = search needs
 
 returns : tie.Need-returns
-returns c = search (needs, not-true, level-refused)
+returns c = search (not-true, level-refused)
 
 returns-2 : tie.Need-returns-2
-returns-2 c = search (needs, not-false, no-tree)
+returns-2 c = search (not-false, no-tree)
 
 returns-3 : tie.Need-returns-3
-returns-3 c = search (needs, not-false, no-sheet)
+returns-3 c = search (not-false, no-sheet)
 
 held-tree-requires : tie.Need-held-tree-requires
 held-tree-requires c κs = search needs
@@ -28,7 +28,7 @@ enum-told : tie.Need-enum-told
 enum-told c = search needs
 
 returns-4 : tie.Need-returns-4
-returns-4 c = search (needs, not-false, tree-refused)
+returns-4 c = search (not-false, tree-refused)
 
 held-sheet-requires : tie.Need-held-sheet-requires
 held-sheet-requires c κs = search needs
@@ -40,16 +40,16 @@ enum-told-2 : tie.Need-enum-told-2
 enum-told-2 c = search needs
 
 returns-5 : tie.Need-returns-5
-returns-5 c = search (needs, not-false, sheet-refused)
+returns-5 c = search (not-false, sheet-refused)
 
 fitting-pair-requires : tie.Need-fitting-pair-requires
 fitting-pair-requires c κs = search needs
 
 returns-6 : tie.Need-returns-6
-returns-6 c = search (needs, not-true, not-false, pair-refused)
+returns-6 c = search (not-true, not-false, pair-refused)
 
 returns-7 : tie.Need-returns-7
-returns-7 c = search (needs, not-false, pair-ready)
+returns-7 c = search (not-false, pair-ready)
 
 pub judge-spec : {M : Type 1} → statement M
 judge-spec =
