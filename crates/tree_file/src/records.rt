@@ -25,25 +25,12 @@ fn judge_record(file: &[u8], nodes: usize, i: usize, events: usize, inputs: usiz
     }
     let a = field_a_at(file, i);
     let b = field_b_at(file, i);
-    if kind == 0 {
-        if a != events {
-            return FirstFault::Found(Refusal::WrongRecord(at));
-        }
-        if b != 0 {
-            return FirstFault::Found(Refusal::WrongRecord(at));
-        }
-        return FirstFault::Absent;
-    }
-    if b < 1 {
-        return FirstFault::Found(Refusal::WrongRecord(at));
-    }
-    if 16 < b {
-        return FirstFault::Found(Refusal::WrongRecord(at));
-    }
-    if a != inputs {
-        return FirstFault::Found(Refusal::WrongRecord(at));
-    }
-    if nodes - 1 < a + b {
+    let right = if kind == 0 {
+        (a == events) & (b == 0)
+    } else {
+        (1 <= b) & (b <= 16) & (a == inputs) & (a + b <= nodes - 1)
+    };
+    if !right {
         return FirstFault::Found(Refusal::WrongRecord(at));
     }
     FirstFault::Absent

@@ -1,5 +1,7 @@
 // Reading a call: a byte that says which, and five numbers of 32 bits, low byte first.
 
+ghost use Prim.Native.Nat.{_+_, _<_};
+
 // A call on the monitor, or a setting of what it works on.
 pub enum Call {
     // The lengths of the tree store and of the sheet store.
@@ -34,6 +36,13 @@ fn number_of(first: u8, second: u8, third: u8, fourth: u8) -> u32 {
     first as u32 + second as u32 * 256 + third as u32 * 65536 + fourth as u32 * 16777216
 }
 
+// The number that the four bytes from a place on spell.
+fn number_at(head: &[u8; 21], at: usize) -> u32
+    requires { ⌜ at + 3 < 21 ⌝ }
+{
+    number_of(head[at], head[at + 1], head[at + 2], head[at + 3])
+}
+
 // The call that a byte and its numbers spell.
 fn call_of(which: u8, one: u32, two: u32, three: u32, four: u32, five: u32) -> Call {
     match which {
@@ -65,10 +74,10 @@ pub fn read_call() -> Call {
     }
     call_of(
         head[0],
-        number_of(head[1], head[2], head[3], head[4]),
-        number_of(head[5], head[6], head[7], head[8]),
-        number_of(head[9], head[10], head[11], head[12]),
-        number_of(head[13], head[14], head[15], head[16]),
-        number_of(head[17], head[18], head[19], head[20]),
+        number_at(&head, 1),
+        number_at(&head, 5),
+        number_at(&head, 9),
+        number_at(&head, 13),
+        number_at(&head, 17),
     )
 }

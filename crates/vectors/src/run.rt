@@ -12,51 +12,59 @@ use crate::hand_in::call_drop;
 use crate::hand_in::call_sheet;
 use crate::hand_in::call_tree;
 
-// What a call leaves: a desk for the next call, or the list's end.
-enum Turn {
-    Next(Desk),
-    End,
+// The desk after a setting; any other call leaves it as it is.
+fn after_setting(desk: Desk, call: Call, tree: &mut [u8], sheet: &mut [u8]) -> Desk {
+    match call {
+        Call::Stores(one, two) => set_stores(desk, one, two, tree, sheet),
+        Call::PokeTree(place, byte) => {
+            poke(tree, place, byte);
+            desk
+        }
+        Call::PokeSheet(place, byte) => {
+            poke(sheet, place, byte);
+            desk
+        }
+        Call::Held(one, two) => set_held(desk, one, two),
+        _ => desk,
+    }
 }
 
-// Reads a call, answers it, and prints what there is after it.
-fn answer_next(
+// The desk after a hand-in, a drop or a setting.
+fn after_hand_in(
     desk: Desk,
+    call: Call,
+    tree: &mut [u8],
+    sheet: &mut [u8],
+    file: &mut [u8],
+) -> Desk {
+    match call {
+        Call::Tree(length) => call_tree(desk, length, tree, sheet, file),
+        Call::Sheet(length) => call_sheet(desk, length, tree, sheet, file),
+        Call::Drop => call_drop(desk, tree, sheet),
+        _ => after_setting(desk, call, tree, sheet),
+    }
+}
+
+// Answers a call and prints what there is after it: the desk for the next call.
+fn after_call(
+    desk: Desk,
+    call: Call,
     tree: &mut [u8],
     sheet: &mut [u8],
     file: &mut [u8],
     lower: &mut [u32],
     upper: &mut [u32],
     marks: &mut [u8],
-) -> Turn {
-    let call = read_call();
+) -> Desk {
     match call {
-        Call::Stores(one, two) => Turn::Next(set_stores(desk, one, two, tree, sheet)),
-        Call::PokeTree(place, byte) => {
-            poke(tree, place, byte);
-            Turn::Next(desk)
-        }
-        Call::PokeSheet(place, byte) => {
-            poke(sheet, place, byte);
-            Turn::Next(desk)
-        }
-        Call::Held(one, two) => Turn::Next(set_held(desk, one, two)),
-        Call::Tree(length) => Turn::Next(call_tree(desk, length, tree, sheet, file)),
-        Call::Sheet(length) => Turn::Next(call_sheet(desk, length, tree, sheet, file)),
-        Call::Drop => Turn::Next(call_drop(desk, tree, sheet)),
         Call::Judge(k, n) => {
             call_judge(desk, k, n, tree, sheet);
-            Turn::Next(desk)
+            desk
         }
-        Call::Question(question) => Turn::Next(call_question(
-            desk,
-            question,
-            tree,
-            sheet,
-            lower,
-            upper,
-            marks,
-        )),
-        Call::End => Turn::End,
+        Call::Question(question) => {
+            call_question(desk, question, tree, sheet, lower, upper, marks)
+        }
+        _ => after_hand_in(desk, call, tree, sheet, file),
     }
 }
 
@@ -72,11 +80,11 @@ pub fn run(
     let mut desk = empty_desk();
     let mut left: u64 = 100000;
     while left > 0 {
-        let turn = answer_next(desk, tree, sheet, file, lower, upper, marks);
-        let Turn::Next(next) = turn else {
+        let call = read_call();
+        if let Call::End = call {
             return;
-        };
-        desk = next;
+        }
+        desk = after_call(desk, call, tree, sheet, file, lower, upper, marks);
         left -= 1;
     }
 }

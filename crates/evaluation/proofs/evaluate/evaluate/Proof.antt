@@ -31,7 +31,7 @@ module _ (a : tie.At-loop Inv-loop μ-loop) where
   marks-same = marks-length (a .before .before .before .before .before .before .pre) (a .loop .inv)
 
 loop-holds : tie.Need-loop-holds Inv-loop μ-loop
-loop-holds c = search (needs, filled-start)
+loop-holds c = search filled-start
 
 enclosure-at-requires : tie.Need-enclosure-at-requires Inv-loop μ-loop
 enclosure-at-requires c κs =
@@ -78,7 +78,7 @@ loop-less : tie.Need-loop-less Inv-loop μ-loop
 loop-less c = search needs
 
 loop-again : tie.Need-loop-again Inv-loop μ-loop
-loop-again c = search (needs, filled-next)
+loop-again c = search filled-next
 
 same-length : tie.Need-same-length Inv-loop μ-loop
 same-length c = lower-same (c .before)

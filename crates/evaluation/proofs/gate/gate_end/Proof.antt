@@ -17,7 +17,7 @@ rounds-up-requires : tie.Need-rounds-up-requires Inv-loop μ-loop
 rounds-up-requires c κs = search needs
 
 loop-holds : tie.Need-loop-holds Inv-loop μ-loop
-loop-holds c = search (needs, running-start)
+loop-holds c = search running-start
 
 mul-field-at : tie.Need-mul-field-at Inv-loop μ-loop
 mul-field-at c = search needs
@@ -45,7 +45,7 @@ loop-less : tie.Need-loop-less Inv-loop μ-loop
 loop-less c = search needs
 
 loop-again : tie.Need-loop-again Inv-loop μ-loop
-loop-again c = search (needs, running-next)
+loop-again c = search running-next
 
 seen-requires-2 : tie.Need-seen-requires-2 Inv-loop μ-loop
 seen-requires-2 c κs = search needs

@@ -5,10 +5,10 @@ use Rattle.evaluation.proofs.gate.rounds_up.Statement.{statement}
 use Rattle.evaluation.proofs.gate.rounds_up.Tie as tie
 
 returns : tie.Need-returns
-returns c = search (needs, up-any)
+returns c = search up-any
 
 returns-2 : tie.Need-returns-2
-returns-2 c = search (needs, up-all)
+returns-2 c = search up-all
 
 pub rounds-up-spec : {M : Type 1} → statement M
 rounds-up-spec = tie.close (tie.spec returns returns-2)

@@ -5,10 +5,10 @@ use Rattle.evaluation.proofs.node.enclosure_at.Statement.{statement}
 use Rattle.evaluation.proofs.node.enclosure_at.Tie as tie
 
 kind-at-requires : tie.Need-kind-at-requires
-kind-at-requires c κs = search (needs, record-asked)
+kind-at-requires c κs = search record-asked
 
 field-a-at-requires : tie.Need-field-a-at-requires
-field-a-at-requires c κs = search (needs, record-asked)
+field-a-at-requires c κs = search record-asked
 
 cut-at-requires : tie.Need-cut-at-requires
 cut-at-requires c κs =
@@ -17,13 +17,13 @@ cut-at-requires c κs =
     (c .before .if1 .taken) (c .field-a-at .ensures)
 
 returns : tie.Need-returns
-returns c = search (needs, cut-answers)
+returns c = search cut-answers
 
 gate-enclosure-requires : tie.Need-gate-enclosure-requires
-gate-enclosure-requires c κs = search (needs, gate-asked)
+gate-enclosure-requires c κs = search gate-asked
 
 returns-2 : tie.Need-returns-2
-returns-2 c = search (needs, gate-answers)
+returns-2 c = search gate-answers
 
 pub enclosure-at-spec : {M : Type 1} → statement M
 enclosure-at-spec =

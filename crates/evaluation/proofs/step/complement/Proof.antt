@@ -8,7 +8,7 @@ sub-t2 : tie.Need-sub-t2
 sub-t2 c = search needs
 
 returns : tie.Need-returns
-returns c = search (needs, complement-end)
+returns c = search complement-end
 
 pub complement-spec : {M : Type 1} → statement M
 complement-spec = tie.close (tie.spec sub-t2 returns)

@@ -14,13 +14,13 @@ enum-known-judgement : tie.Need-enum-known-judgement
 enum-known-judgement c = search needs
 
 returns : tie.Need-returns
-returns c = search (needs, tree-refused, tree-refused-store)
+returns c = search (tree-refused, tree-refused-store)
 
 enum-told : tie.Need-enum-told
 enum-told c = search needs
 
 returns-2 : tie.Need-returns-2
-returns-2 c = search (needs, tree-too-long, tree-too-long-store)
+returns-2 c = search (tree-too-long, tree-too-long-store)
 
 copy-requires : tie.Need-copy-requires
 copy-requires c κs = search needs
@@ -29,7 +29,7 @@ same-length : tie.Need-same-length
 same-length c = search needs
 
 returns-3 : tie.Need-returns-3
-returns-3 c = search (needs, tree-taken, tree-taken-store)
+returns-3 c = search (tree-taken, tree-taken-store)
 
 pub hand-in-tree-spec : {M : Type 1} → statement M
 hand-in-tree-spec =

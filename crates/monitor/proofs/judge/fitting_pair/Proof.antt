@@ -11,10 +11,10 @@ cast-events : tie.Need-cast-events
 cast-events c = search needs
 
 returns : tie.Need-returns
-returns c = search (needs, other-number)
+returns c = search other-number
 
 returns-2 : tie.Need-returns-2
-returns-2 c = search (needs, by-events)
+returns-2 c = search by-events
 
 pub fitting-pair-spec : {M : Type 1} → statement M
 fitting-pair-spec = tie.close (tie.spec cast-number cast-events returns returns-2)

@@ -5,10 +5,10 @@ use Rattle.monitor.proofs.judge.held_sheet.Statement.{statement}
 use Rattle.monitor.proofs.judge.held_sheet.Tie as tie
 
 returns : tie.Need-returns
-returns c = search (needs, sheet-beyond)
+returns c = search sheet-beyond
 
 slice-aggregate-judge : tie.Need-slice-aggregate-judge
-slice-aggregate-judge c = search (needs, counted-front)
+slice-aggregate-judge c = search counted-front
 
 judge-requires : tie.Need-judge-requires
 judge-requires c κs = search needs
@@ -20,10 +20,10 @@ enum-told : tie.Need-enum-told
 enum-told c = search needs
 
 returns-2 : tie.Need-returns-2
-returns-2 c = search (needs, sheet-changed)
+returns-2 c = search sheet-changed
 
 returns-3 : tie.Need-returns-3
-returns-3 c = search (needs, sheet-counted)
+returns-3 c = search sheet-counted
 
 pub held-sheet-spec : {M : Type 1} → statement M
 held-sheet-spec =

@@ -5,10 +5,10 @@ use Rattle.monitor.proofs.judge.held_tree.Statement.{statement}
 use Rattle.monitor.proofs.judge.held_tree.Tie as tie
 
 returns : tie.Need-returns
-returns c = search (needs, tree-beyond)
+returns c = search tree-beyond
 
 slice-aggregate-judge : tie.Need-slice-aggregate-judge
-slice-aggregate-judge c = search (needs, counted-front)
+slice-aggregate-judge c = search counted-front
 
 judge-requires : tie.Need-judge-requires
 judge-requires c κs = search needs
@@ -20,10 +20,10 @@ enum-told : tie.Need-enum-told
 enum-told c = search needs
 
 returns-2 : tie.Need-returns-2
-returns-2 c = search (needs, tree-changed)
+returns-2 c = search tree-changed
 
 returns-3 : tie.Need-returns-3
-returns-3 c = search (needs, tree-counted)
+returns-3 c = search tree-counted
 
 pub held-tree-spec : {M : Type 1} → statement M
 held-tree-spec =

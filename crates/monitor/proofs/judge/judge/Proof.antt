@@ -10,13 +10,19 @@ level-good-requires : tie.Need-level-good-requires
 level-good-requires c κs = search needs
 
 returns : tie.Need-returns
-returns c = search (needs, not-true, level-refused)
+returns c = level-refused _ _ _ _ _ _ (c .before .level-good .ensures) (not-true _ (c .if1 .taken))
 
 returns-2 : tie.Need-returns-2
-returns-2 c = search (needs, not-false, no-tree)
+returns-2 c =
+    let judged = c .before .before in
+    no-tree _ _ _ _ _ _ (judged .before .level-good .ensures) (not-false _ (judged .if1 .left)) (c .if2 .taken)
 
 returns-3 : tie.Need-returns-3
-returns-3 c = search (needs, not-false, no-sheet)
+returns-3 c =
+    let some-tree = c .before .before in
+    let ranged = some-tree .before .before in
+    no-sheet _ _ _ _ _ _ (ranged .before .level-good .ensures) (not-false _ (ranged .if1 .left)) (some-tree .if2 .left)
+    (c .if3 .taken)
 
 held-tree-requires : tie.Need-held-tree-requires
 held-tree-requires c κs = search needs
@@ -28,7 +34,13 @@ enum-told : tie.Need-enum-told
 enum-told c = search needs
 
 returns-4 : tie.Need-returns-4
-returns-4 c = search (needs, not-false, tree-refused)
+returns-4 c =
+    let held = c .before .before in
+    let some-sheet = held .before in
+    let some-tree = some-sheet .before .before in
+    let ranged = some-tree .before .before in
+    tree-refused _ _ _ _ _ _ (ranged .before .level-good .ensures) (not-false _ (ranged .if1 .left)) (some-tree .if2 .left)
+    (some-sheet .if3 .left) _ (held .held-tree .ensures) (c .enum-told .given .1)
 
 held-sheet-requires : tie.Need-held-sheet-requires
 held-sheet-requires c κs = search needs
@@ -40,16 +52,47 @@ enum-told-2 : tie.Need-enum-told-2
 enum-told-2 c = search needs
 
 returns-5 : tie.Need-returns-5
-returns-5 c = search (needs, not-false, sheet-refused)
+returns-5 c =
+    let counted = c .before .before in
+    let tree = counted .before .before in
+    let held = tree .before .before in
+    let some-sheet = held .before in
+    let some-tree = some-sheet .before .before in
+    let ranged = some-tree .before .before in
+    sheet-refused _ _ _ _ _ _ (ranged .before .level-good .ensures) (not-false _ (ranged .if1 .left)) (some-tree .if2 .left)
+    (some-sheet .if3 .left) _ (held .held-tree .ensures) _ (tree .tree .given .1) _ (counted .held-sheet .ensures)
+    (c .enum-told2 .given .1)
 
 fitting-pair-requires : tie.Need-fitting-pair-requires
 fitting-pair-requires c κs = search needs
 
 returns-6 : tie.Need-returns-6
-returns-6 c = search (needs, not-true, not-false, pair-refused)
+returns-6 c =
+    let pair = c .before in
+    let sheet = pair .before .before in
+    let counted = sheet .before .before in
+    let tree = counted .before .before in
+    let held = tree .before .before in
+    let some-sheet = held .before in
+    let some-tree = some-sheet .before .before in
+    let ranged = some-tree .before .before in
+    pair-refused _ _ _ _ _ _ (ranged .before .level-good .ensures) (not-false _ (ranged .if1 .left)) (some-tree .if2 .left)
+    (some-sheet .if3 .left) _ (held .held-tree .ensures) _ (tree .tree .given .1) _ (counted .held-sheet .ensures) _
+    (sheet .sheet .given .1) _ (pair .fitting-pair .ensures) (not-true _ (c .if4 .taken))
 
 returns-7 : tie.Need-returns-7
-returns-7 c = search (needs, not-false, pair-ready)
+returns-7 c =
+    let pair = c .before in
+    let sheet = pair .before .before in
+    let counted = sheet .before .before in
+    let tree = counted .before .before in
+    let held = tree .before .before in
+    let some-sheet = held .before in
+    let some-tree = some-sheet .before .before in
+    let ranged = some-tree .before .before in
+    pair-ready _ _ _ _ _ _ (ranged .before .level-good .ensures) (not-false _ (ranged .if1 .left)) (some-tree .if2 .left)
+    (some-sheet .if3 .left) _ (held .held-tree .ensures) _ (tree .tree .given .1) _ (counted .held-sheet .ensures) _
+    (sheet .sheet .given .1) _ (pair .fitting-pair .ensures) (not-false _ (c .if4 .left))
 
 pub judge-spec : {M : Type 1} → statement M
 judge-spec =

@@ -29,7 +29,13 @@ read32-requires-4 : tie.Need-read32-requires-4
 read32-requires-4 c κs = search needs
 
 returns : tie.Need-returns
-returns c = cc
+returns c =
+    rw (
+      c .before .before .before .read32 .ensures,
+      c .before .before .read322 .ensures,
+      c .before .read323 .ensures,
+      c .read324 .ensures,
+    )
 
 pub read-numbers-spec : {M : Type 1} → statement M
 read-numbers-spec =

@@ -9,13 +9,13 @@ kind-at-requires : tie.Need-kind-at-requires
 kind-at-requires c κs = search needs
 
 returns : tie.Need-returns
-returns c = search (needs, read-none)
+returns c = search read-none
 
 field-b-at-requires : tie.Need-field-b-at-requires
 field-b-at-requires c κs = search needs
 
 returns-2 : tie.Need-returns-2
-returns-2 c = search (needs, read-inputs)
+returns-2 c = search read-inputs
 
 pub input-count-at-spec : {M : Type 1} → statement M
 input-count-at-spec = tie.close (tie.spec kind-at-requires returns field-b-at-requires returns-2)

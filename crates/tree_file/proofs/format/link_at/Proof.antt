@@ -20,7 +20,11 @@ field-at-requires : tie.Need-field-at-requires
 field-at-requires c κs = search needs
 
 returns : tie.Need-returns
-returns c = record { value = cc; small = search needs }
+returns c =
+    record {
+      value = rw (← c .before .before .pre .0) (c .field-at .ensures .value);
+      small = c .field-at .ensures .small;
+    }
 
 pub link-at-spec : {M : Type 1} → statement M
 link-at-spec =

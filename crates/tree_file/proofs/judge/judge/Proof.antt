@@ -13,16 +13,16 @@ enum-known-header : tie.Need-enum-known-header
 enum-known-header c = search needs
 
 returns : tie.Need-returns
-returns c = search (needs, header-stop)
+returns c = search header-stop
 
 enum-told : tie.Need-enum-told
 enum-told c = search needs
 
 field-at-requires : tie.Need-field-at-requires
-field-at-requires c κs = search (needs, header-long)
+field-at-requires c κs = search header-long
 
 judge-records-requires : tie.Need-judge-records-requires
-judge-records-requires c κs = search (needs, sized)
+judge-records-requires c κs = search sized
 
 enum-known-records : tie.Need-enum-known-records
 enum-known-records c = search needs
@@ -31,22 +31,22 @@ enum-told-2 : tie.Need-enum-told-2
 enum-told-2 c = search needs
 
 returns-2 : tie.Need-returns-2
-returns-2 c = search (needs, records-refused)
+returns-2 c = search records-refused
 
 judge-links-requires : tie.Need-judge-links-requires
-judge-links-requires c κs = search (needs, sized, records-free)
+judge-links-requires c κs = search (sized, records-free)
 
 enum-known-links : tie.Need-enum-known-links
 enum-known-links c = search needs
 
 returns-3 : tie.Need-returns-3
-returns-3 c = search (needs, links-refused)
+returns-3 c = search links-refused
 
 enum-told-3 : tie.Need-enum-told-3
 enum-told-3 c = search needs
 
 returns-4 : tie.Need-returns-4
-returns-4 c = search (needs, all-accepted)
+returns-4 c = search all-accepted
 
 pub judge-spec : {M : Type 1} → statement M
 judge-spec =

@@ -28,7 +28,7 @@ input-count-at-requires : tie.Need-input-count-at-requires Inv-links μ-links In
 input-count-at-requires c κs = search needs
 
 links-holds : tie.Need-links-holds Inv-links μ-links Inv-gates μ-gates
-links-holds c = search (needs, gate-start)
+links-holds c = search gate-start
 
 mul-at : tie.Need-mul-at Inv-links μ-links Inv-gates μ-gates
 mul-at c = search needs
@@ -61,7 +61,7 @@ links-less : tie.Need-links-less Inv-links μ-links Inv-gates μ-gates
 links-less c = search needs
 
 links-again : tie.Need-links-again Inv-links μ-links Inv-gates μ-gates
-links-again c = search (needs, link-more)
+links-again c = search link-more
 
 add-gate : tie.Need-add-gate Inv-links μ-links Inv-gates μ-gates
 add-gate c = search needs
@@ -70,16 +70,16 @@ gates-less : tie.Need-gates-less Inv-links μ-links Inv-gates μ-gates
 gates-less c = search needs
 
 gates-again : tie.Need-gates-again Inv-links μ-links Inv-gates μ-gates
-gates-again c = search (needs, gate-done)
+gates-again c = search gate-done
 
 returns : tie.Need-returns Inv-links μ-links Inv-gates μ-gates
-returns c = search (needs, links-free)
+returns c = search links-free
 
 returns-2 : tie.Need-returns-2 Inv-links μ-links Inv-gates μ-gates
-returns-2 c = search (needs, not-below)
+returns-2 c = search not-below
 
 returns-3 : tie.Need-returns-3 Inv-links μ-links Inv-gates μ-gates
-returns-3 c = search (needs, linked-before)
+returns-3 c = search linked-before
 
 pub judge-links-spec : {M : Type 1} → statement M
 judge-links-spec =

@@ -24,7 +24,7 @@ enum-known-fault : tie.Need-enum-known-fault Inv-loop μ-loop
 enum-known-fault c = search needs
 
 returns : tie.Need-returns Inv-loop μ-loop
-returns c = search (needs, records-stop)
+returns c = search records-stop
 
 enum-told : tie.Need-enum-told Inv-loop μ-loop
 enum-told c = search needs
@@ -45,7 +45,7 @@ loop-less : tie.Need-loop-less Inv-loop μ-loop
 loop-less c = search needs
 
 loop-again : tie.Need-loop-again Inv-loop μ-loop
-loop-again c = search (needs, basic-more)
+loop-again c = search basic-more
 
 add-inputs : tie.Need-add-inputs Inv-loop μ-loop
 add-inputs c = search needs
@@ -54,7 +54,7 @@ loop-less-2 : tie.Need-loop-less-2 Inv-loop μ-loop
 loop-less-2 c = search needs
 
 loop-again-2 : tie.Need-loop-again-2 Inv-loop μ-loop
-loop-again-2 c = search (needs, gate-more)
+loop-again-2 c = search gate-more
 
 mul-links-at : tie.Need-mul-links-at Inv-loop μ-loop
 mul-links-at c = search needs
@@ -66,13 +66,13 @@ sub-if2 : tie.Need-sub-if2 Inv-loop μ-loop
 sub-if2 c = search needs
 
 returns-2 : tie.Need-returns-2 Inv-loop μ-loop
-returns-2 c = search (needs, inputs-missing)
+returns-2 c = search inputs-missing
 
 field-at-requires : tie.Need-field-at-requires Inv-loop μ-loop
 field-at-requires c κs = search needs
 
 returns-3 : tie.Need-returns-3 Inv-loop μ-loop
-returns-3 c = search (needs, records-accepted)
+returns-3 c = search records-accepted
 
 pub judge-records-spec : {M : Type 1} → statement M
 judge-records-spec =

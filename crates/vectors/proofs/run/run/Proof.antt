@@ -20,11 +20,8 @@ empty-desk-requires c κs = search needs
 loop-holds : tie.Need-loop-holds Inv-loop μ-loop
 loop-holds c = search needs
 
-answer-next-requires : tie.Need-answer-next-requires Inv-loop μ-loop
-answer-next-requires c κs = search needs
-
-enum-known-turn : tie.Need-enum-known-turn Inv-loop μ-loop
-enum-known-turn c = search needs
+read-call-requires : tie.Need-read-call-requires Inv-loop μ-loop
+read-call-requires c κs = search needs
 
 enum-told : tie.Need-enum-told Inv-loop μ-loop
 enum-told c = search needs
@@ -49,6 +46,9 @@ same-length-6 c = search needs
 
 returns : tie.Need-returns Inv-loop μ-loop
 returns c = search needs
+
+after-call-requires : tie.Need-after-call-requires Inv-loop μ-loop
+after-call-requires c κs = search needs
 
 sub-left : tie.Need-sub-left Inv-loop μ-loop
 sub-left c = search needs
@@ -88,8 +88,7 @@ run-spec =
     μ-loop
     empty-desk-requires
     loop-holds
-    answer-next-requires
-    enum-known-turn
+    read-call-requires
     enum-told
     same-length
     same-length-2
@@ -98,6 +97,7 @@ run-spec =
     same-length-5
     same-length-6
     returns
+    after-call-requires
     sub-left
     loop-less
     loop-again

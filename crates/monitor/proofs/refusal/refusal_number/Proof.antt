@@ -1,0 +1,104 @@
+-- `monitor::refusal::refusal_number` meets its contract: in each arm the refusal is that arm's, and its number by definition.
+-- Assumes nothing.
+use mathlib.Core.Path.{sym, ap, _∙_}
+use borrow.Author.Needs.{needs}
+use Rattle.monitor.specs.Refusals.{number-of}
+use Rattle.monitor.proofs.refusal.refusal_number.Statement.{statement}
+use Rattle.monitor.proofs.refusal.refusal_number.Tie as tie
+
+enum-known-refusal : tie.Need-enum-known-refusal
+enum-known-refusal c = c .match .keys1
+
+refusal-number-requires : tie.Need-refusal-number-requires
+refusal-number-requires c κs = tt
+
+enum-known-refusal-2 : tie.Need-enum-known-refusal-2
+enum-known-refusal-2 c = c .match .keys2
+
+refusal-number-requires-2 : tie.Need-refusal-number-requires-2
+refusal-number-requires-2 c κs = tt
+
+cast-result : tie.Need-cast-result
+cast-result c = search needs
+
+enum-told : tie.Need-enum-told
+enum-told c = c .match .keys3
+
+enum-told-2 : tie.Need-enum-told-2
+enum-told-2 c = c .match .keys4
+
+enum-told-3 : tie.Need-enum-told-3
+enum-told-3 c = c .match .keys5
+
+enum-told-4 : tie.Need-enum-told-4
+enum-told-4 c = c .match .keys6
+
+enum-told-5 : tie.Need-enum-told-5
+enum-told-5 c = c .match .keys7
+
+enum-told-6 : tie.Need-enum-told-6
+enum-told-6 c = c .match .keys8
+
+enum-told-7 : tie.Need-enum-told-7
+enum-told-7 c = c .match .keys9
+
+enum-told-8 : tie.Need-enum-told-8
+enum-told-8 c = c .match .keys10
+
+returns : tie.Need-returns
+returns c = c .refusal-number .ensures ∙ sym (ap number-of (c .before .before .refusal .given .1))
+
+returns-2 : tie.Need-returns-2
+returns-2 c = c .refusal-number2 .ensures ∙ sym (ap number-of (c .before .before .refusal2 .given .1))
+
+returns-3 : tie.Need-returns-3
+returns-3 c = sym (ap number-of (c .enum-told .given .1))
+
+returns-4 : tie.Need-returns-4
+returns-4 c = sym (ap number-of (c .enum-told2 .given .1))
+
+returns-5 : tie.Need-returns-5
+returns-5 c = sym (ap number-of (c .enum-told3 .given .1))
+
+returns-6 : tie.Need-returns-6
+returns-6 c = sym (ap number-of (c .enum-told4 .given .1))
+
+returns-7 : tie.Need-returns-7
+returns-7 c = sym (ap number-of (c .enum-told5 .given .1))
+
+returns-8 : tie.Need-returns-8
+returns-8 c = sym (ap number-of (c .enum-told6 .given .1))
+
+returns-9 : tie.Need-returns-9
+returns-9 c = sym (ap number-of (c .enum-told7 .given .1))
+
+returns-10 : tie.Need-returns-10
+returns-10 c = sym (ap number-of (c .enum-told8 .given .1))
+
+pub refusal-number-spec : {M : Type 1} → statement M
+refusal-number-spec =
+    tie.close
+    (tie.spec
+    enum-known-refusal
+    refusal-number-requires
+    enum-known-refusal-2
+    refusal-number-requires-2
+    cast-result
+    enum-told
+    enum-told-2
+    enum-told-3
+    enum-told-4
+    enum-told-5
+    enum-told-6
+    enum-told-7
+    enum-told-8
+    returns
+    returns-2
+    returns-3
+    returns-4
+    returns-5
+    returns-6
+    returns-7
+    returns-8
+    returns-9
+    returns-10)
