@@ -21,8 +21,8 @@ returns-3 : tie.Need-returns-3
 returns-3 c =
     let some-tree = c .before .before in
     let ranged = some-tree .before .before in
-    no-sheet _ _ _ _ _ _ (ranged .before .level-good .ensures) (not-false _ (ranged .if1 .left)) (some-tree .if2 .left)
-    (c .if3 .taken)
+    no-sheet _ _ _ _ _ _ (ranged .before .level-good .ensures) (not-false _ (ranged .if1 .left))
+    (some-tree .if2 .left) (c .if3 .taken)
 
 held-tree-requires : tie.Need-held-tree-requires
 held-tree-requires c κs = search needs
@@ -39,8 +39,8 @@ returns-4 c =
     let some-sheet = held .before in
     let some-tree = some-sheet .before .before in
     let ranged = some-tree .before .before in
-    tree-refused _ _ _ _ _ _ (ranged .before .level-good .ensures) (not-false _ (ranged .if1 .left)) (some-tree .if2 .left)
-    (some-sheet .if3 .left) _ (held .held-tree .ensures) (c .enum-told .given .1)
+    tree-refused _ _ _ _ _ _ (ranged .before .level-good .ensures) (not-false _ (ranged .if1 .left))
+    (some-tree .if2 .left) (some-sheet .if3 .left) _ (held .held-tree .ensures) (c .enum-told .given .1)
 
 held-sheet-requires : tie.Need-held-sheet-requires
 held-sheet-requires c κs = search needs
@@ -59,8 +59,9 @@ returns-5 c =
     let some-sheet = held .before in
     let some-tree = some-sheet .before .before in
     let ranged = some-tree .before .before in
-    sheet-refused _ _ _ _ _ _ (ranged .before .level-good .ensures) (not-false _ (ranged .if1 .left)) (some-tree .if2 .left)
-    (some-sheet .if3 .left) _ (held .held-tree .ensures) _ (tree .tree .given .1) _ (counted .held-sheet .ensures)
+    sheet-refused _ _ _ _ _ _ (ranged .before .level-good .ensures) (not-false _ (ranged .if1 .left))
+    (some-tree .if2 .left) (some-sheet .if3 .left) _ (held .held-tree .ensures)
+    _ (tree .tree .given .1) _ (counted .held-sheet .ensures)
     (c .enum-told2 .given .1)
 
 fitting-pair-requires : tie.Need-fitting-pair-requires
@@ -76,8 +77,9 @@ returns-6 c =
     let some-sheet = held .before in
     let some-tree = some-sheet .before .before in
     let ranged = some-tree .before .before in
-    pair-refused _ _ _ _ _ _ (ranged .before .level-good .ensures) (not-false _ (ranged .if1 .left)) (some-tree .if2 .left)
-    (some-sheet .if3 .left) _ (held .held-tree .ensures) _ (tree .tree .given .1) _ (counted .held-sheet .ensures) _
+    pair-refused _ _ _ _ _ _ (ranged .before .level-good .ensures) (not-false _ (ranged .if1 .left))
+    (some-tree .if2 .left) (some-sheet .if3 .left) _ (held .held-tree .ensures)
+    _ (tree .tree .given .1) _ (counted .held-sheet .ensures) _
     (sheet .sheet .given .1) _ (pair .fitting-pair .ensures) (not-true _ (c .if4 .taken))
 
 returns-7 : tie.Need-returns-7
@@ -90,8 +92,9 @@ returns-7 c =
     let some-sheet = held .before in
     let some-tree = some-sheet .before .before in
     let ranged = some-tree .before .before in
-    pair-ready _ _ _ _ _ _ (ranged .before .level-good .ensures) (not-false _ (ranged .if1 .left)) (some-tree .if2 .left)
-    (some-sheet .if3 .left) _ (held .held-tree .ensures) _ (tree .tree .given .1) _ (counted .held-sheet .ensures) _
+    pair-ready _ _ _ _ _ _ (ranged .before .level-good .ensures) (not-false _ (ranged .if1 .left))
+    (some-tree .if2 .left) (some-sheet .if3 .left) _ (held .held-tree .ensures)
+    _ (tree .tree .given .1) _ (counted .held-sheet .ensures) _
     (sheet .sheet .given .1) _ (pair .fitting-pair .ensures) (not-false _ (c .if4 .left))
 
 pub judge-spec : {M : Type 1} → statement M

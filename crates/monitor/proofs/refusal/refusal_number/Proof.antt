@@ -1,4 +1,5 @@
--- `monitor::refusal::refusal_number` meets its contract: in each arm the refusal is that arm's, and its number by definition.
+-- `monitor::refusal::refusal_number` meets its contract: in each arm the refusal is that arm's,
+-- and its number is so by definition.
 -- Assumes nothing.
 use mathlib.Core.Path.{sym, ap, _∙_}
 use borrow.Author.Needs.{needs}

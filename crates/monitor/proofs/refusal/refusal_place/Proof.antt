@@ -1,4 +1,5 @@
--- `monitor::refusal::refusal_place` meets its contract: in each arm the refusal is that arm's, and its place by definition.
+-- `monitor::refusal::refusal_place` meets its contract: in each arm the refusal is that arm's,
+-- and its place is so by definition.
 -- Assumes nothing.
 use mathlib.Core.Path.{sym, ap, _∙_}
 use Rattle.monitor.specs.Refusals.{place-of}

@@ -22,7 +22,7 @@ judge-numbers-requires c κs = search needs
 returns : tie.Need-returns
 returns c =
     let after-byte-at = c .before .before in
-    simp (eq-eqb _ _ (sym (after-byte-at .byte-at .ensures .0) ∙ c .before .if1 .taken)) (c .judge-numbers .ensures)
+    rw (eq-eqb _ _ (sym (after-byte-at .byte-at .ensures .0) ∙ c .before .if1 .taken)) (c .judge-numbers .ensures)
 
 judge-opinions-requires : tie.Need-judge-opinions-requires
 judge-opinions-requires c κs = search needs
@@ -32,14 +32,14 @@ returns-2 c =
     let after-if1 = c .before .before in
     let after-byte-at = c .before .before .before in
     let kind = after-byte-at .byte-at .ensures .0 in
-    simp (ne-eqb _ _ (λ e. after-if1 .if1 .left (kind ∙ e)), eq-eqb _ _ (sym kind ∙ c .before .if2 .taken))
+    rw (ne-eqb _ _ (λ e. after-if1 .if1 .left (kind ∙ e)), eq-eqb _ _ (sym kind ∙ c .before .if2 .taken))
     (c .judge-opinions .ensures)
 
 returns-3 : tie.Need-returns-3
 returns-3 c =
     let after-byte-at = c .before .before in
     let kind = after-byte-at .byte-at .ensures .0 in
-    simp (ne-eqb _ _ (λ e. c .before .if1 .left (kind ∙ e)), ne-eqb _ _ (λ e. c .if2 .left (kind ∙ e)))
+    rw (ne-eqb _ _ (λ e. c .before .if1 .left (kind ∙ e)), ne-eqb _ _ (λ e. c .if2 .left (kind ∙ e)))
 
 pub judge-entry-spec : {M : Type 1} → statement M
 judge-entry-spec =

@@ -22,14 +22,14 @@ read-numbers-requires c κs = search needs
 returns : tie.Need-returns
 returns c =
     let after-byte-at = c .before .before in
-    simp (eq-eqb _ _ (sym (after-byte-at .byte-at .ensures .0) ∙ c .before .if1 .taken))
+    rw (eq-eqb _ _ (sym (after-byte-at .byte-at .ensures .0) ∙ c .before .if1 .taken))
     (ap entry.Numbers (c .read-numbers .ensures))
 
 add-t5 : tie.Need-add-t5
 add-t5 c = search needs
 
 returns-2 : tie.Need-returns-2
-returns-2 c = simp (ne-eqb _ _ (λ e. c .if1 .left (c .before .byte-at .ensures .0 ∙ e)))
+returns-2 c = rw (ne-eqb _ _ (λ e. c .if1 .left (c .before .byte-at .ensures .0 ∙ e)))
 
 pub read-entry-spec : {M : Type 1} → statement M
 read-entry-spec =

@@ -37,14 +37,14 @@ listed c = le-leb _ _ (subst (λ (x : ℕ). x ≤ 16) (c .before .byte-at .ensur
 
 returns : tie.Need-returns
 unfolding header-fault
-returns c = simp (lt-leb _ _ (c .if1 .taken))
+returns c = rw (lt-leb _ _ (c .if1 .taken))
 
 letters-good-requires : tie.Need-letters-good-requires
 letters-good-requires c κs = search needs
 
 returns-2 : tie.Need-returns-2
 unfolding header-fault
-returns-2 c = simp (long (c .before .before), sym (c .before .letters-good .ensures) ∙ not-true _ (c .if2 .taken))
+returns-2 c = rw (long (c .before .before), sym (c .before .letters-good .ensures) ∙ not-true _ (c .if2 .taken))
 
 read16-requires : tie.Need-read16-requires
 read16-requires c κs = search needs
@@ -52,7 +52,7 @@ read16-requires c κs = search needs
 returns-3 : tie.Need-returns-3
 unfolding header-fault
 returns-3 c =
-    simp (
+    rw (
       long (c .before .before .before .before),
       lettered (c .before .before),
       ne-eqb _ _ (λ e. c .if3 .taken (c .before .read16 .ensures .0 ∙ e)),
@@ -71,7 +71,7 @@ returns-4 c =
     let place-3 = c .before .before .before in
     let place-5 = c .before .before .before .before .before in
     let place-7 = c .before .before .before .before .before .before .before in
-    simp (
+    rw (
       long (place-7),
       lettered (place-5),
       versioned (place-3),
@@ -85,7 +85,7 @@ byte-at-requires c κs = search needs
 returns-5 : tie.Need-returns-5
 unfolding header-fault
 returns-5 c =
-    simp (
+    rw (
       long (c .before .before .before .before .before .before .before .before .before),
       lettered (c .before .before .before .before .before .before .before),
       versioned (c .before .before .before .before .before),
@@ -110,7 +110,7 @@ returns-6 c =
     let place-6 = c .before .before .before .before .before .before in
     let place-8 = c .before .before .before .before .before .before .before .before in
     let place-10 = c .before .before .before .before .before .before .before .before .before .before in
-    simp (
+    rw (
       long (place-10),
       lettered (place-8),
       versioned (place-6),
@@ -122,7 +122,7 @@ returns-6 c =
 returns-7 : tie.Need-returns-7
 unfolding header-fault
 returns-7 c =
-    simp (
+    rw (
       long (c .before .before .before .before .before .before .before .before .before .before),
       lettered (c .before .before .before .before .before .before .before .before),
       versioned (c .before .before .before .before .before .before),

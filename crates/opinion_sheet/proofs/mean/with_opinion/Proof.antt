@@ -49,7 +49,7 @@ high-bounded c =
     (c .term-value3 .ensures)
 
 returns : tie.Need-returns
-returns c = simp (eq-eqb _ _ (c .if1 .taken))
+returns c = rw (eq-eqb _ _ (c .if1 .taken))
 
 term-value-requires : tie.Need-term-value-requires
 term-value-requires c κs = search needs

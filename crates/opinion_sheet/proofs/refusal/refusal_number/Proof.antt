@@ -1,4 +1,5 @@
--- `opinion_sheet::refusal::refusal_number` meets its contract: in each arm the refusal is that arm's, and its number by definition.
+-- `opinion_sheet::refusal::refusal_number` meets its contract: in each arm the refusal is that arm's,
+-- and its number is so by definition.
 -- Assumes nothing.
 use mathlib.Core.Path.{sym, ap}
 use Rattle.opinion_sheet.specs.Refusals.{number-of}

@@ -1,4 +1,5 @@
--- `tree_file::refusal::refusal_number` meets its contract: in each arm the refusal is that arm's, and its number by definition.
+-- `tree_file::refusal::refusal_number` meets its contract: in each arm the refusal is that arm's,
+-- and its number is so by definition.
 -- Assumes nothing.
 use mathlib.Core.Path.{sym, ap}
 use Rattle.tree_file.specs.Refusals.{number-of}
