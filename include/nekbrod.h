@@ -111,7 +111,7 @@ typedef struct nekbrod_reply {
 /*
  * Hands in a tree file.
  * Reads file[0 .. file_len). Accepted, it is copied to the front of the store, the rest of the store stays, and the
- * state holds it in place of the one before, beside the sheet as before. Refused by 1 to 9, or by 20, in that order.
+ * state holds it in place of the one before, beside the sheet as before. Refused by the first fault of 1 to 9, else by 20.
  */
 nekbrod_answer nekbrod_hand_in_tree(nekbrod_state state, const uint8_t *file, size_t file_len, uint8_t *tree_store,
                                     size_t tree_store_len);
@@ -119,7 +119,8 @@ nekbrod_answer nekbrod_hand_in_tree(nekbrod_state state, const uint8_t *file, si
 /*
  * Hands in an opinion sheet.
  * Reads sheet[0 .. sheet_len). Accepted, it is copied to the front of the store, the rest of the store stays, and the
- * state holds it in place of the one before, beside the tree as before. Refused by 1 to 7, 10 to 12, or by 20.
+ * state holds it in place of the one before, beside the tree as before. Refused by the first fault of 1 to 7 and 10 to
+ * 12, else by 20.
  */
 nekbrod_answer nekbrod_hand_in_sheet(nekbrod_state state, const uint8_t *sheet, size_t sheet_len, uint8_t *sheet_store,
                                      size_t sheet_store_len);

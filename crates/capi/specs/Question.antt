@@ -49,7 +49,7 @@ report-in reply = record {
   events = reply .events;
 }
 
--- Demand 3 of every reply whose number is 0: monitor's `Kept` of the report in it and of every node's place in the slices.
+-- Demand 3 of every reply whose number is 0: monitor's `Kept` of the report in it and of every node's place.
 abbrev pub Promises-kept : Reply → List ℕ → List ℕ → ℕ → ℕ → List ℕ → List ℕ → List ℕ → Type 0
 Promises-kept reply tree sheet k n lower upper marks =
     reply .refusal .number ≡ 0 → Kept (report-in reply) tree sheet k n lower upper marks

@@ -11,7 +11,7 @@ use lib.ListN.{length, getD}
 use Rattle.theory.specs.Unit.{billion}
 use Rattle.theory.specs.Rounding.{Direction, start, step}
 use Rattle.theory.specs.Rounding.{End as Theory-end}
-use Rattle.theory.proofs.GateFold.{seen, turned, folded}
+use Rattle.theory.specs.GateFold.{seen, turned, folded}
 use Rattle.tree_file.specs.Format.{field16}
 use Rattle.tree_file.specs.Clauses.{Is16}
 use Rattle.evaluation.specs.Ends.{InUnits, direction, as-theory, as-code, stepped, complemented}

@@ -7,7 +7,7 @@ use mathlib.Core.Bool.{Bool, true, false, cond}
 use mathlib.Core.List.{List}
 use native.Mathlib.Nat.{zero-add, le-of-lt, lt-of-lt-of-le}
 use native.Mathlib.Omega.{arith}
-use lib.ListN.{length, getD, drop, length-drop}
+use lib.ListN.{length, getD, length-drop}
 use lib.Dec.{eqb, lit<}
 use borrow.Author.Tests.{eq-eqb, ne-eqb}
 use Rattle.theory.specs.FaultTree.{GateKind}
@@ -16,7 +16,7 @@ use Rattle.theory.specs.Unit.{billion}
 use Rattle.theory.specs.Rounding.{Direction, down, up, End, step, cut-end, end-of}
 use Rattle.theory.specs.NodeTable.{event, joint}
 use Rattle.theory.proofs.CutOrdered.{cut-ordered}
-use Rattle.theory.proofs.GateFold.{seen, turned, folded}
+use Rattle.theory.specs.GateFold.{seen, turned, folded}
 use Rattle.theory.proofs.GateFold.{node-end as end-by-node}
 use Rattle.theory.proofs.LinksBelow.{ranked-by-number, end-by-earlier}
 use Rattle.theory.proofs.NodePromised.{node-at-most}
@@ -36,7 +36,7 @@ use Rattle.opinion_sheet.specs.declared.cut.Enclosure.{Enclosure}
 use Rattle.opinion_sheet.proofs.Accepted.{event-rising}
 use Rattle.evaluation.specs.Ends.{direction}
 use Rattle.evaluation.specs.Stored.{marked, stored-end, kind-as, linked, Inputs-stored, fold-end, Gate-stored}
-use Rattle.evaluation.specs.Stored.{joined}
+use Rattle.evaluation.specs.Stored.{joined, part-of}
 use Rattle.evaluation.specs.Report.{event-cut, node-end, node-enclosure, mark-byte}
 use Rattle.evaluation.specs.Requirements.{Pair, Stored-before, Node-asked}
 
@@ -116,7 +116,7 @@ module _ (tree sheet : List ℕ) (k n : ℕ) (pair : Pair tree sheet k n) where
   module _ (i : ℕ) (l : i < node-count tree) (gate : 1 ≤ kind tree i) where
     -- the part of the tree file that starts at the gate's first link
     abbrev part : List ℕ
-    part = drop (link-at tree (field-a tree i)) tree
+    part = part-of tree i
 
     -- a gate's end is the fold of its inputs' stored ends
     pub gate-end-is : (upper : Bool) (values marks : List ℕ)

@@ -9,7 +9,7 @@ use lib.Dec.{eqb}
 use Rattle.theory.specs.FaultTree.{GateKind, all, any}
 use Rattle.theory.specs.Unit.{billion}
 use Rattle.theory.specs.Rounding.{End as Theory-end}
-use Rattle.theory.proofs.GateFold.{seen, turned, folded}
+use Rattle.theory.specs.GateFold.{seen, turned, folded}
 use Rattle.tree_file.specs.Format.{field16, field-a, field-b, kind, link-at, node-count}
 use Rattle.tree_file.specs.Tallies.{input-count}
 use Rattle.tree_file.specs.Clauses.{HasRecord}

@@ -5,7 +5,7 @@ use crate::step::step;
 use crate::stored::end_at;
 use tree_file::format::field_at;
 ghost use mathlib.Core.Path.{_≡_};
-ghost use Rattle.theory.proofs.GateFold.{turned};
+ghost use Rattle.theory.specs.GateFold.{turned};
 ghost use Rattle.evaluation.specs.Ends.{InUnits, direction};
 ghost use Rattle.evaluation.specs.Stored.{kind-as, seen-as, Inputs-stored, gate-as};
 

@@ -1,5 +1,6 @@
 // Runs the level printer on many inputs: each has its length before it, 32 bits wide, low byte first, and so has each
 // text that is printed for one. reference/src/framing.rs writes and reads the same.
+use printer::print::MOST_TEXT;
 use printer::print::Printed;
 use printer::print::print_levels;
 
@@ -21,7 +22,7 @@ fn write_length(length: usize) {
 
 // Prints the levels of an input.
 fn answer(input: &[u8]) {
-    let mut text = [0u8; 37119];
+    let mut text = [0u8; MOST_TEXT];
     let printed = print_levels(input, &mut text);
     if let Printed::Complete(length) = printed {
         write_length(length);

@@ -1,4 +1,5 @@
 // The level printer: reads standard input to its end, and writes the text that is printed for it.
+use printer::print::MOST_TEXT;
 use printer::print::Printed;
 use printer::print::print_levels;
 
@@ -6,7 +7,7 @@ fn main() {
     // One byte more than the largest input, so that a longer one is seen.
     let mut input = [0u8; 24616];
     let count = io::read_full(libc::STDIN_FILENO, &mut input);
-    let mut text = [0u8; 37119];
+    let mut text = [0u8; MOST_TEXT];
     let printed = print_levels(&input[..count], &mut text);
     if let Printed::Complete(length) = printed {
         io::write_all(libc::STDOUT_FILENO, &text[..length]);

@@ -1,5 +1,5 @@
--- Demand 3 of document 01, of an answer and the work slices after it. A marked end is the exact end; an unmarked one lies
--- outward of it (a lower end below, an upper end above); either is off by less than 2 × E − 1 units. And the top
+-- Demand 3 of document 01, of an answer and the work slices after it. A marked end is the exact end; an unmarked one
+-- lies outward of it (a lower end below, an upper end above); either is off by less than 2 × E − 1 units. And the top
 -- probability lies between the two ends answered, these included. Assumes nothing.
 use Prim.Native.Nat.{ℕ, _<_}
 use mathlib.Core.Bool.{true, false}

@@ -1,32 +1,28 @@
 -- A pair that is ready for level n of n is answered at every level. Assumes nothing.
 use Prim.Native.Nat.{ℕ, _≤_}
 use native.Mathlib.Omega.{arith}
-use mathlib.Core.Path.{_≡_, refl, sym, ap, ap₂, _∙_, subst}
-use mathlib.Core.Bool.{Bool, true, false, _&&_, _||_}
+use mathlib.Core.Path.{_≡_, sym, ap, ap₂, _∙_, subst}
+use mathlib.Core.Bool.{Bool, false, _&&_, _||_}
 use mathlib.Core.List.{List}
 use lib.ListN.{length, replicate, length-replicate}
 use lib.Dec.{leb, ltb}
 use borrow.Author.Tests.{le-leb, le-ltb}
 use Rattle.tree_file.specs.Format.{node-count}
-use Rattle.tree_file.specs.Clauses.{Sized}
-use Rattle.tree_file.specs.WellFormed.{WellFormed}
 use Rattle.monitor.specs.FirstFault.{unless, _or-else_}
-use Rattle.monitor.specs.Standing.{held, level-good, level-fault, no-tree-fault, no-sheet-fault, tree-fault, sheet-fault}
+use Rattle.monitor.specs.Standing.{held, level-good, no-tree-fault, no-sheet-fault, tree-fault, sheet-fault}
 use Rattle.monitor.specs.Standing.{pair-fault, standing-by, standing-of, sizes-of}
-use Rattle.monitor.specs.Question.{held-tree-bytes, held-sheet-bytes, too-short, outcome-by, outcome-of, report-of}
+use Rattle.monitor.specs.Question.{held-tree-bytes, held-sheet-bytes, outcome-by, outcome-of, report-of}
 use Rattle.monitor.specs.Question.{reply-of}
 use Rattle.monitor.specs.declared.refusal.Refusal.{Refusal}
 use Rattle.monitor.specs.declared.refusal.Refusal.the-variants.{Level}
 use Rattle.monitor.specs.declared.state.State.{State}
-use Rattle.monitor.specs.declared.held.Sizes.{Sizes}
 use Rattle.monitor.specs.declared.held.Standing.{Standing}
-use Rattle.monitor.specs.declared.held.Standing.the-variants.{Ready}
 use Rattle.monitor.specs.declared.question.Report.{Report}
 use Rattle.monitor.specs.declared.question.Reply.{Reply}
 use Rattle.monitor.specs.declared.question.Outcome.{Outcome}
 use Rattle.monitor.specs.declared.question.Outcome.the-variants.{Answered, Refused}
 use Rattle.tree_file.proofs.Accepted.{accepted-well-formed}
-use Rattle.monitor.proofs.Standing.{Ready-pair, ready-pair}
+use Rattle.monitor.proofs.Standing.{ready-pair}
 use Rattle.printer.specs.Text.{level-line}
 use Rattle.printer.specs.Held.{Ready-at, outcome-at}
 use Rattle.printer.specs.Put.{Put}

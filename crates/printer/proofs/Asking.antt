@@ -1,17 +1,16 @@
 -- The text for files that are held: the question's refusal, or the header and the levels. Assumes nothing.
 use Prim.Native.Nat.{ℕ, suc, _+_, _*_, _≤_, _<_}
-use native.Mathlib.Nat.{le-trans, le-of-eq}
 use native.Mathlib.Omega.{arith}
-use mathlib.Core.Path.{_≡_, refl, sym, ap, ap₂, _∙_, subst}
+use mathlib.Core.Path.{_≡_, sym, ap, ap₂, _∙_, subst}
 use mathlib.Core.List.{List, _++_}
-use lib.ListN.{length, take, getD, length-take}
+use lib.ListN.{length}
 use lib.Seq.{getD-take, length-take-le}
-use Rattle.tree_file.specs.Format.{field16, byte, node-count, tree-number, required-length}
+use Rattle.tree_file.specs.Format.{field16, node-count, tree-number}
 use Rattle.tree_file.specs.Tallies.{events-before}
 use Rattle.tree_file.specs.Clauses.{Is16}
 use Rattle.tree_file.specs.WellFormed.{WellFormed}
 use Rattle.tree_file.proofs.Accepted.{accepted-well-formed}
-use Rattle.monitor.specs.Standing.{standing-of, sizes-of}
+use Rattle.monitor.specs.Standing.{standing-of}
 use Rattle.monitor.specs.Question.{held-tree-bytes, held-sheet-bytes}
 use Rattle.monitor.specs.declared.refusal.Refusal.{Refusal}
 use Rattle.monitor.specs.declared.state.State.{State}
@@ -20,6 +19,7 @@ use Rattle.monitor.specs.declared.held.Standing.{Standing}
 use Rattle.monitor.specs.declared.held.Standing.the-variants.{Ready, Refused}
 use Rattle.monitor.proofs.Standing.{Ready-pair, ready-pair}
 use Rattle.printer.specs.Text.{refusal-line, header-line, lines-below, levels-text, question-refusal, text-by}
+use Rattle.printer.specs.Text.{most-text}
 use Rattle.printer.specs.Held.{Ready-at, held-text}
 use Rattle.printer.specs.Put.{Put}
 use Rattle.printer.proofs.Puts.{put-then}
@@ -42,7 +42,8 @@ module _ (state : State) (tree-store sheet-store : List ℕ) (n : ℕ) (standing
 
   -- refused: the refusal and nothing else
   pub question-refused : (refusal : Refusal) → standing ≡ Refused refusal → (before after : List ℕ) (end : ℕ)
-      → Put (refusal-line refusal) 0 before after end → Put (held-text state tree-store sheet-store n) 0 before after end
+      → Put (refusal-line refusal) 0 before after end
+      → Put (held-text state tree-store sheet-store n) 0 before after end
   question-refused refusal f before after end put =
       subst (λ (text : List ℕ). Put text 0 before after end) (sym (held-by (Refused refusal) f)) put
 
@@ -62,7 +63,7 @@ module _ (state : State) (tree-store sheet-store : List ℕ) (n : ℕ) (standing
     tree-long : 14 ≤ state .«tree_len»
     tree-long =
         let good : WellFormed tree = accepted-well-formed tree _ (pair .tree-accepted) in
-        let long : length tree ≡ state .«tree_len» = length-take-le (state .«tree_len») tree-store (pair .tree-inside) in
+        let long : length tree ≡ state .«tree_len» = length-take-le _ tree-store (pair .tree-inside) in
         omega (arith, long, good .length-value, good .nodes-least)
 
     -- so has its store
@@ -78,7 +79,7 @@ module _ (state : State) (tree-store sheet-store : List ℕ) (n : ℕ) (standing
         (sym (getD-take (state .«tree_len») tree-store 6 0 (omega (arith, tree-long))))
 
     -- there is room for the levels after the header
-    pub levels-room : (before between : List ℕ) (end : ℕ) → 37119 ≤ length before → length between ≡ length before
+    pub levels-room : (before between : List ℕ) (end : ℕ) → most-text ≤ length before → length between ≡ length before
         → end ≤ 82 → end + 37 * 1001 ≤ length between
     levels-room before between end room same most = omega arith
 
@@ -88,7 +89,8 @@ module _ (state : State) (tree-store sheet-store : List ℕ) (n : ℕ) (standing
         → Put (lines-below tree sheet n (suc n)) end between after last
         → Put (held-text state tree-store sheet-store n) 0 before after last
     levels-put number is before between after end last header lines =
-        let named : header-line number (sizes .events) n ≡ header-line (tree-number tree) (events-before tree (node-count tree)) n =
+        let named : header-line number (sizes .events) n
+        ≡ header-line (tree-number tree) (events-before tree (node-count tree)) n =
         ap₂ (λ (a b : ℕ). header-line a b n) (is .value ∙ number-is) (pair .events-value) in
         let whole : header-line number (sizes .events) n ++ lines-below tree sheet n (suc n)
         ≡ held-text state tree-store sheet-store n =

@@ -1,15 +1,15 @@
 -- A field of a line put into a draft, with the byte after it. Assumes nothing.
 use Prim.Native.Nat.{ℕ, _+_, _-_, _≤_, _<_}
 use native.Mathlib.Omega.{arith}
-use mathlib.Core.Path.{_≡_, refl, sym, ap, _∙_}
+use mathlib.Core.Path.{_≡_, refl, ap, _∙_}
 use mathlib.Core.Bool.{Bool}
-use mathlib.Core.List.{List, [], _∷_, _++_, append-assoc, append-nil}
+use mathlib.Core.List.{List, [], _∷_, _++_, append-nil}
 use lib.ListN.{length, take, drop, set, length-append, length-drop, length-set, drop-of-length-le}
 use lib.Seq.{take-all, take-length, drop-drop}
 use borrow.Rule.Slice.PartMut.{putMid, same-len-mid}
 use Rattle.printer.specs.Line.{ended, mark}
 use Rattle.printer.specs.Put.{with-text, Put, Room}
-use Rattle.printer.proofs.Puts.{byte-put, put-then, put-byte}
+use Rattle.printer.proofs.Puts.{byte-put, put-byte}
 
 -- A field that is put has room for the byte after it, inside the draft.
 module _ (field draft between : List ℕ) (place end after : ℕ) (room : Room (ended field after) place draft)
@@ -31,7 +31,8 @@ module _ (field draft between : List ℕ) (place end after : ℕ) (room : Room (
   after-put same = put-byte after same room first
 
 -- there is room for the field itself
-pub field-room : (field draft : List ℕ) (place after : ℕ) → Room (ended field after) place draft → Room field place draft
+pub field-room : (field draft : List ℕ) (place after : ℕ) → Room (ended field after) place draft
+    → Room field place draft
 field-room field draft place after room = omega (arith, length-append field (after ∷ []))
 
 -- A word copied to the part of the draft that begins at its place.
@@ -103,7 +104,8 @@ module _ (exact : Bool) (draft : List ℕ) (place after byte : ℕ) (e : byte �
   }
 
   -- and the byte after it
-  pub mark-ended : Put (ended (mark exact ∷ []) after) place draft (set (set draft place byte) (place + 1) after) (place + 2)
+  pub mark-ended : Put (ended (mark exact ∷ []) after) place draft
+      (set (set draft place byte) (place + 1) after) (place + 2)
   mark-ended =
       let both = put-byte after (length-set draft place byte) room mark-put in
       record { bytes = both .bytes; end-is = refl }

@@ -1,18 +1,17 @@
 -- What the printer answers and leaves, by the text in its draft. Assumes nothing.
-use Prim.Native.Nat.{ℕ, _+_, _-_, _≤_, _<_}
+use Prim.Native.Nat.{ℕ, _+_, _≤_, _<_}
 use native.Mathlib.Omega.{arith}
-use mathlib.Core.Path.{_≡_, refl, sym, ap, ap₂, _∙_, subst}
+use mathlib.Core.Path.{_≡_, sym, ap, ap₂, _∙_, subst}
 use mathlib.Core.Bool.{Bool, true, false, cond}
-use mathlib.Core.List.{List, [], _++_}
-use lib.ListN.{length, take, drop, length-append, length-drop}
+use mathlib.Core.List.{List, _++_}
+use lib.ListN.{length, take, drop, replicate, length-append, length-replicate}
 use lib.Seq.{take-append-seam, take-length}
 use lib.Dec.{leb}
 use borrow.Author.Tests.{le-leb, lt-leb}
-use Rattle.printer.specs.Text.{whole-text}
+use Rattle.printer.specs.Text.{most-text, whole-text}
 use Rattle.printer.specs.Printed.{answer-of, buffer-after}
-use Rattle.printer.specs.declared.print.Printed.{Printed}
 use Rattle.printer.specs.declared.print.Printed.the-variants.{Complete, TooShort}
-use Rattle.printer.specs.Put.{Put, with-text}
+use Rattle.printer.specs.Put.{Put}
 
 module _ (input before draft : List ℕ) (count : ℕ) (put : Put (whole-text input) 0 before draft count)
     (same : length draft ≡ length before) where
@@ -43,10 +42,6 @@ module _ (input before draft : List ℕ) (count : ℕ) (put : Put (whole-text in
   -- so its front is as long as the text
   pub front-counted : count ≡ length (take count draft)
   front-counted = count-is ∙ sym (ap length text-taken)
-
-  -- no text is longer than the draft was made for
-  pub text-most : (most : ℕ) → length before ≡ most → count ≤ most
-  text-most most e = omega (arith, text-inside)
 
   module _ (buffer : List ℕ) where
     -- the test on the buffer's length, by the count
@@ -95,3 +90,14 @@ module _ (input before draft : List ℕ) (count : ℕ) (put : Put (whole-text in
           ∙ ap (λ (text : List ℕ). text ++ drop (length (whole-text input)) buffer) (take-length (whole-text input))
           ∙ sym (ap (λ (b : Bool). cond b (whole-text input ++ drop (length (whole-text input)) buffer) buffer)
           (room-test true (le-leb count (length buffer) l)))
+
+-- the draft as it is made
+abbrev empty-draft : List ℕ
+empty-draft = replicate most-text 0
+
+-- no text is longer than the draft was made for
+pub text-most : (input draft : List ℕ) (count : ℕ) → Put (whole-text input) 0 empty-draft draft count
+    → length draft ≡ length empty-draft → count ≤ most-text
+text-most input draft count put same =
+    subst (λ (n : ℕ). count ≤ n) (same ∙ length-replicate {A = ℕ} most-text 0)
+    (text-inside input empty-draft draft count put same)

@@ -1,5 +1,5 @@
 -- The text for an input, by its split. Assumes nothing.
-use Prim.Native.Nat.{ℕ, _+_, _-_, _≤_, _<_}
+use Prim.Native.Nat.{ℕ, _+_, _-_, _≤_}
 use native.Mathlib.Omega.{arith}
 use mathlib.Core.Path.{_≡_, refl, sym, ap, ap₂, _∙_, subst}
 use mathlib.Core.Bool.{Bool, true, false, _&&_, cond, and-eq-true-iff}
@@ -40,12 +40,15 @@ module _ (input : List ℕ) where
       (eqb-true _ _ (first .1), (leb-true _ _ (second .0), leb-true _ _ (second .1)))
 
   module _ (parts : Split) (e : parts ≡ split-of input) where
+    -- the parts of a whole input
+    abbrev in-parts : Split
+    in-parts = Whole (record { n = level-count input; «tree_end» = tree-end input })
+
     -- by the test
-    parts-by : (b : Bool) → well-framed input ≡ b
-        → parts ≡ cond b (Whole (record { n = level-count input; «tree_end» = tree-end input })) Malformed
+    parts-by : (b : Bool) → well-framed input ≡ b → parts ≡ cond b in-parts Malformed
     unfolding split-of
     parts-by b f =
-        e ∙ ap (λ (b : Bool). cond b (Whole (record { n = level-count input; «tree_end» = tree-end input })) Malformed) f
+        e ∙ ap (λ (b : Bool). cond b in-parts Malformed) f
 
     -- a malformed input gets its line
     pub input-put : parts ≡ Malformed → (before after : List ℕ) (end : ℕ) → Put input-line 0 before after end

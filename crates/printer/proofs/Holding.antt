@@ -1,16 +1,14 @@
 -- The text for files that are handed in: a file's refusal, or the text once it is held. Assumes nothing.
-use Prim.Native.Nat.{ℕ, suc, _+_, _≤_, _<_}
+use Prim.Native.Nat.{ℕ, _≤_}
 use native.Mathlib.Omega.{arith}
 use mathlib.Core.Path.{_≡_, refl, sym, ap, ap₂, _∙_, subst}
-use mathlib.Core.Bool.{Bool, true, false, _&&_, cond}
-use mathlib.Core.List.{List, [], _∷_, _++_}
-use lib.ListN.{length, take, drop, replicate, length-append, length-replicate}
+use mathlib.Core.Bool.{Bool, _&&_, cond}
+use mathlib.Core.List.{List, _++_}
+use lib.ListN.{length, drop, replicate, length-append, length-replicate}
 use lib.Seq.{take-length, take-append-seam}
 use lib.Dec.{leb}
 use borrow.Author.Tests.{le-leb}
 use Rattle.opinion_sheet.specs.Judged.{judged as judged-sheet}
-use Rattle.opinion_sheet.specs.declared.refusal.Refusal.{Refusal as SheetRefusal}
-use Rattle.opinion_sheet.specs.declared.judgement.Counts.{Counts as SheetCounts}
 use Rattle.opinion_sheet.specs.declared.judgement.Judgement.{Judgement as SheetJudgement}
 use Rattle.opinion_sheet.specs.declared.judgement.Judgement.the-variants.{Accepted as accepted-sheet}
 use Rattle.opinion_sheet.specs.declared.judgement.Judgement.the-variants.{Refused as refused-sheet}
@@ -20,9 +18,10 @@ use Rattle.tree_file.specs.declared.judgement.Judgement.the-variants.{Accepted 
 use Rattle.tree_file.specs.declared.judgement.Judgement.the-variants.{Refused as refused-tree}
 use Rattle.monitor.specs.FirstFault.{unless, _or-else_}
 use Rattle.monitor.specs.HandIn.{fitting, tree-verdict-by, sheet-verdict-by, tree-verdict, sheet-verdict, answer-by}
-use Rattle.monitor.specs.HandIn.{with-front, store-by, holding-tree, holding-sheet, tree-answer, tree-store}
+use Rattle.monitor.specs.HandIn.{store-by, holding-tree, holding-sheet, tree-answer, tree-store}
 use Rattle.monitor.specs.HandIn.{sheet-answer, sheet-store, nothing-held}
-use Rattle.monitor.specs.Standing.{held, level-fault, no-tree-fault, no-sheet-fault, tree-fault, sheet-fault, pair-fault}
+use Rattle.monitor.specs.Standing.{held, level-fault, no-tree-fault, no-sheet-fault, tree-fault, sheet-fault}
+use Rattle.monitor.specs.Standing.{pair-fault}
 use Rattle.monitor.specs.Standing.{tree-stands, sheet-stands, accepted-tree?, accepted-sheet?, standing-by, standing-of}
 use Rattle.monitor.specs.Standing.{sizes-of}
 use Rattle.monitor.specs.Question.{held-tree-bytes}
@@ -102,200 +101,161 @@ fits file size l =
     ap (λ (b : Bool). cond b Accepted (Refused ShortStore))
     (le-leb (length file) (length (replicate size 0)) (rw length-replicate l))
 
--- What handing in a sheet answers, with a store that takes it.
+-- the refusal of a verdict, if it has one
+abbrev fault-of : Verdict → FirstFault
+fault-of (Refused refusal) = Found refusal
+fault-of Accepted = Absent
+
+-- it is a tree's own where the tree fits its store
+tree-fault-is : (j : TreeJudgement) → tree-refusal j ≡ fault-of (tree-verdict-by j Accepted)
+tree-fault-is (refused-tree fault) = refl
+tree-fault-is (accepted-tree counts) = refl
+
+-- and a sheet's
+sheet-fault-is : (j : SheetJudgement) → sheet-refusal j ≡ fault-of (sheet-verdict-by j Accepted)
+sheet-fault-is (refused-sheet fault) = refl
+sheet-fault-is (accepted-sheet counts) = refl
+
+-- A hand-in whose verdict is v, by the states before it and after it.
+module _ (before after : State) (answer : Answer) (v : Verdict) (e : answer ≡ answer-by v before after) where
+  -- it answers v
+  verdict-is : v ≡ answer .verdict
+  verdict-is = by v ∙ sym (ap (λ (a : Answer). a .verdict) e)
+    where
+      by : (v : Verdict) → v ≡ answer-by v before after .verdict
+      by (Refused refusal) = refl
+      by Accepted = refl
+
+  -- accepted, it answers the state after it
+  state-is : v ≡ Accepted → answer .state ≡ after
+  state-is f = ap (λ (a : Answer). a .state) (e ∙ ap (λ (v : Verdict). answer-by v before after) f)
+
+-- A text that is t for a fault, put by its verdict.
+module _ (t : FirstFault → List ℕ) (v : Verdict) (found : Verdict) (e : v ≡ found) (before after : List ℕ) (end : ℕ) where
+  -- the text for the verdict found is the text
+  by-verdict : (text : List ℕ) → text ≡ t (fault-of v) → Put (t (fault-of found)) 0 before after end
+      → Put text 0 before after end
+  by-verdict text f put =
+      subst (λ (text : List ℕ). Put text 0 before after end) (sym (f ∙ ap (λ (v : Verdict). t (fault-of v)) e)) put
+
+-- Handing in a sheet, with a store that takes it.
 module _ (state : State) (held-tree sheet : List ℕ) (n : ℕ) (l : length sheet ≤ 17434) where
   -- the printer's store
   abbrev empty-store : List ℕ
   empty-store = replicate 17434 0
 
-  -- the verdict by the judgement alone
-  sheet-verdict-is : (j : SheetJudgement) → judged-sheet sheet ≡ j
-      → sheet-verdict sheet empty-store ≡ sheet-verdict-by j Accepted
-  sheet-verdict-is j e = ap₂ sheet-verdict-by e (fits sheet 17434 l)
+  -- the state that holds the sheet too
+  abbrev both-held : State
+  both-held = holding-sheet (length sheet) state
 
-  -- the text by the judgement
-  sheet-text-by : (j : SheetJudgement) → judged-sheet sheet ≡ j
-      → sheet-text state held-tree sheet n
-      ≡ text-by
-      (sheet-refusal j or-else
-      question-refusal (standing-of (holding-sheet (length sheet) state) held-tree sheet n n))
+  -- what is printed for a fault of the sheet, or for none
+  abbrev after-sheet : FirstFault → List ℕ
+  after-sheet fault =
+      text-by (fault or-else question-refusal (standing-of both-held held-tree sheet n n))
       (levels-text (held-tree-bytes state held-tree) sheet n)
+
+  -- the text by the verdict
+  sheet-text-is : sheet-text state held-tree sheet n ≡ after-sheet (fault-of (sheet-verdict sheet empty-store))
   unfolding sheet-text
-  sheet-text-by j e =
-      ap (λ (j : SheetJudgement). text-by
-      (sheet-refusal j or-else
-      question-refusal (standing-of (holding-sheet (length sheet) state) held-tree sheet n n))
-      (levels-text (held-tree-bytes state held-tree) sheet n)) e
-
-  -- the text of a pair whose sheet is at the front of its store
-  sheet-front-text : (rest : List ℕ)
-      → held-text (holding-sheet (length sheet) state) held-tree (sheet ++ rest) n
-      ≡ text-by (question-refusal (standing-of (holding-sheet (length sheet) state) held-tree sheet n n))
-      (levels-text (held-tree-bytes state held-tree) sheet n)
-  unfolding held-text
-  sheet-front-text rest =
-      ap₂ (λ (s : Standing) (bytes : List ℕ). text-by (question-refusal s)
-      (levels-text (held-tree-bytes state held-tree) bytes n))
-      (standing-front-sheet (state .«tree_len») held-tree sheet rest n) (take-append-seam sheet rest)
-
-  -- the answer and the store by the verdict
-  sheet-answer-is : (v : Verdict) → sheet-verdict sheet empty-store ≡ v
-      → sheet-answer state sheet empty-store ≡ answer-by v state (holding-sheet (length sheet) state)
-  unfolding sheet-answer
-  sheet-answer-is v e = ap (λ (v : Verdict). answer-by v state (holding-sheet (length sheet) state)) e
-
-  sheet-store-is : sheet-verdict sheet empty-store ≡ Accepted
-      → sheet-store sheet empty-store ≡ sheet ++ drop (length sheet) empty-store
-  unfolding sheet-store
-  sheet-store-is e = ap (λ (v : Verdict). store-by v sheet empty-store) e
+  sheet-text-is =
+      ap after-sheet
+      (sheet-fault-is (judged-sheet sheet)
+      ∙ ap (λ (v : Verdict). fault-of (sheet-verdict-by (judged-sheet sheet) v)) (sym (fits sheet 17434 l)))
 
   module _ (answer : Answer) (e : answer ≡ sheet-answer state sheet empty-store) where
-    -- the answer by the judgement
-    answered-sheet : (j : SheetJudgement) → judged-sheet sheet ≡ j
-        → answer ≡ answer-by (sheet-verdict-by j Accepted) state (holding-sheet (length sheet) state)
-    answered-sheet j f = e ∙ sheet-answer-is (sheet-verdict-by j Accepted) (sheet-verdict-is j f)
+    -- the verdict answered
+    sheet-verdict-is : sheet-verdict sheet empty-store ≡ answer .verdict
+    unfolding sheet-answer
+    sheet-verdict-is = verdict-is state both-held answer (sheet-verdict sheet empty-store) e
 
     -- a refused sheet: the refusal and nothing else
-    sheet-refused-text : (refusal : Refusal) → answer .verdict ≡ Refused refusal
-        → sheet-text state held-tree sheet n ≡ refusal-line refusal
-    sheet-refused-text refusal h = go (judged-sheet sheet) refl
-      where
-        go : (j : SheetJudgement) → judged-sheet sheet ≡ j → sheet-text state held-tree sheet n ≡ refusal-line refusal
-        go (refused-sheet fault) f =
-            let met : Refused (Sheet fault) ≡ Refused refusal =
-            sym (ap (λ (a : Answer). a .verdict) (answered-sheet (refused-sheet fault) f)) ∙ h in
-            let same : Sheet fault ≡ refusal = cc in
-            sheet-text-by (refused-sheet fault) f ∙ ap refusal-line same
-        go (accepted-sheet counts) f =
-            let met : Accepted ≡ Refused refusal =
-            sym (ap (λ (a : Answer). a .verdict) (answered-sheet (accepted-sheet counts) f)) ∙ h in
-            let clash : _≡_ {A = ℕ} 0 1 = cc in
-            absurd (omega arith)
-
-    -- an accepted one: the text of what is held then
-    sheet-held-text : (store : List ℕ) → store ≡ sheet-store sheet empty-store → answer .verdict ≡ Accepted
-        → held-text (answer .state) held-tree store n ≡ sheet-text state held-tree sheet n
-    sheet-held-text store g h = go (judged-sheet sheet) refl
-      where
-        go : (j : SheetJudgement) → judged-sheet sheet ≡ j
-            → held-text (answer .state) held-tree store n ≡ sheet-text state held-tree sheet n
-        go (refused-sheet fault) f =
-            let met : Refused (Sheet fault) ≡ Accepted =
-            sym (ap (λ (a : Answer). a .verdict) (answered-sheet (refused-sheet fault) f)) ∙ h in
-            let clash : _≡_ {A = ℕ} 0 1 = cc in
-            absurd (omega arith)
-        go (accepted-sheet counts) f =
-            ap₂ (λ (s : State) (bytes : List ℕ). held-text s held-tree bytes n)
-            (ap (λ (a : Answer). a .state) (answered-sheet (accepted-sheet counts) f))
-            (g ∙ sheet-store-is (sheet-verdict-is (accepted-sheet counts) f))
-            ∙ sheet-front-text (drop (length sheet) empty-store)
-            ∙ sym (sheet-text-by (accepted-sheet counts) f)
-
-    -- the text put, of a refused sheet
     pub sheet-refused : (refusal : Refusal) → answer .verdict ≡ Refused refusal → (before after : List ℕ) (end : ℕ)
         → Put (refusal-line refusal) 0 before after end → Put (sheet-text state held-tree sheet n) 0 before after end
-    sheet-refused refusal h before after end put =
-        subst (λ (text : List ℕ). Put text 0 before after end) (sym (sheet-refused-text refusal h)) put
+    sheet-refused refusal h before after end =
+        by-verdict after-sheet (sheet-verdict sheet empty-store) (Refused refusal) (sheet-verdict-is ∙ h) before after end
+        (sheet-text state held-tree sheet n) sheet-text-is
 
-    -- and of one that is held
+    -- a sheet at the front of its store is printed as the sheet itself
+    sheet-front-text : (store : List ℕ) → store ≡ sheet-store sheet empty-store → answer .verdict ≡ Accepted
+        → held-text (answer .state) held-tree store n ≡ after-sheet Absent
+    unfolding held-text sheet-answer sheet-store
+    sheet-front-text store g h =
+        let rest = drop (length sheet) empty-store in
+        let front : store ≡ sheet ++ rest =
+        g ∙ ap (λ (v : Verdict). store-by v sheet empty-store) (sheet-verdict-is ∙ h) in
+        let now-held = state-is state both-held answer (sheet-verdict sheet empty-store) e (sheet-verdict-is ∙ h) in
+        ap₂ (λ (s : State) (bytes : List ℕ). held-text s held-tree bytes n) now-held front
+        ∙ ap₂ (λ (s : Standing) (bytes : List ℕ). text-by (question-refusal s)
+        (levels-text (held-tree-bytes state held-tree) bytes n))
+        (standing-front-sheet (state .«tree_len») held-tree sheet rest n) (take-append-seam sheet rest)
+
+    -- an accepted sheet: the text of what is held then
     pub sheet-held : (store : List ℕ) → store ≡ sheet-store sheet empty-store → answer .verdict ≡ Accepted
         → (before after : List ℕ) (end : ℕ) → Put (held-text (answer .state) held-tree store n) 0 before after end
         → Put (sheet-text state held-tree sheet n) 0 before after end
     sheet-held store g h before after end put =
-        subst (λ (text : List ℕ). Put text 0 before after end) (sheet-held-text store g h) put
+        by-verdict after-sheet (sheet-verdict sheet empty-store) Accepted (sheet-verdict-is ∙ h) before after end
+        (sheet-text state held-tree sheet n) sheet-text-is
+        (subst (λ (text : List ℕ). Put text 0 before after end) (sheet-front-text store g h) put)
 
--- What handing in a tree answers, with a store that takes it and nothing held.
+-- Handing in a tree, with a store that takes it and nothing held.
 module _ (tree sheet : List ℕ) (n : ℕ) (l : length tree ≤ 7175) where
   -- the printer's store
   abbrev empty-tree : List ℕ
   empty-tree = replicate 7175 0
 
-  -- what is printed after a tree that is accepted
-  abbrev rest-text : FirstFault → List ℕ
-  rest-text fault =
+  -- the state that holds the tree
+  abbrev tree-held-state : State
+  tree-held-state = holding-tree (length tree) nothing-held
+
+  -- what is printed for a fault of the tree, or for none
+  abbrev after-tree : FirstFault → List ℕ
+  after-tree fault =
       text-by (fault or-else
       sheet-refusal (judged-sheet sheet) or-else
       question-refusal (standing-of (holding tree sheet) tree sheet n n)) (levels-text tree sheet n)
 
-  -- the verdict by the judgement alone
-  tree-verdict-is : (j : TreeJudgement) → judged-tree tree ≡ j → tree-verdict tree empty-tree ≡ tree-verdict-by j Accepted
-  tree-verdict-is j e = ap₂ tree-verdict-by e (fits tree 7175 l)
-
-  -- the text by the judgement
-  text-of-by : (j : TreeJudgement) → judged-tree tree ≡ j → text-of tree sheet n ≡ rest-text (tree-refusal j)
+  -- the text by the verdict
+  text-of-is : text-of tree sheet n ≡ after-tree (fault-of (tree-verdict tree empty-tree))
   unfolding text-of
-  text-of-by j e = ap (λ (j : TreeJudgement). rest-text (tree-refusal j)) e
-
-  -- the text of a sheet handed in to a tree at the front of its store
-  tree-front-text : (rest : List ℕ)
-      → sheet-text (holding-tree (length tree) nothing-held) (tree ++ rest) sheet n ≡ rest-text Absent
-  unfolding sheet-text
-  tree-front-text rest =
-      ap₂ (λ (s : Standing) (bytes : List ℕ). text-by (sheet-refusal (judged-sheet sheet) or-else question-refusal s)
-      (levels-text bytes sheet n))
-      (standing-front-tree (length sheet) tree rest sheet n) (take-append-seam tree rest)
-
-  -- the answer and the store by the verdict
-  tree-answer-is : (v : Verdict) → tree-verdict tree empty-tree ≡ v
-      → tree-answer nothing-held tree empty-tree ≡ answer-by v nothing-held (holding-tree (length tree) nothing-held)
-  unfolding tree-answer
-  tree-answer-is v e = ap (λ (v : Verdict). answer-by v nothing-held (holding-tree (length tree) nothing-held)) e
-
-  tree-store-is : tree-verdict tree empty-tree ≡ Accepted
-      → tree-store tree empty-tree ≡ tree ++ drop (length tree) empty-tree
-  unfolding tree-store
-  tree-store-is e = ap (λ (v : Verdict). store-by v tree empty-tree) e
+  text-of-is =
+      ap after-tree
+      (tree-fault-is (judged-tree tree)
+      ∙ ap (λ (v : Verdict). fault-of (tree-verdict-by (judged-tree tree) v)) (sym (fits tree 7175 l)))
 
   module _ (answer : Answer) (e : answer ≡ tree-answer nothing-held tree empty-tree) where
-    -- the answer by the judgement
-    answered-tree : (j : TreeJudgement) → judged-tree tree ≡ j
-        → answer ≡ answer-by (tree-verdict-by j Accepted) nothing-held (holding-tree (length tree) nothing-held)
-    answered-tree j f = e ∙ tree-answer-is (tree-verdict-by j Accepted) (tree-verdict-is j f)
+    -- the verdict answered
+    tree-verdict-is : tree-verdict tree empty-tree ≡ answer .verdict
+    unfolding tree-answer
+    tree-verdict-is = verdict-is nothing-held tree-held-state answer (tree-verdict tree empty-tree) e
 
     -- a refused tree: the refusal and nothing else
-    tree-refused-text : (refusal : Refusal) → answer .verdict ≡ Refused refusal
-        → text-of tree sheet n ≡ refusal-line refusal
-    tree-refused-text refusal h = go (judged-tree tree) refl
-      where
-        go : (j : TreeJudgement) → judged-tree tree ≡ j → text-of tree sheet n ≡ refusal-line refusal
-        go (refused-tree fault) f =
-            let met : Refused (Tree fault) ≡ Refused refusal =
-            sym (ap (λ (a : Answer). a .verdict) (answered-tree (refused-tree fault) f)) ∙ h in
-            let same : Tree fault ≡ refusal = cc in
-            text-of-by (refused-tree fault) f ∙ ap refusal-line same
-        go (accepted-tree counts) f =
-            let met : Accepted ≡ Refused refusal =
-            sym (ap (λ (a : Answer). a .verdict) (answered-tree (accepted-tree counts) f)) ∙ h in
-            let clash : _≡_ {A = ℕ} 0 1 = cc in
-            absurd (omega arith)
-
-    -- an accepted one: the text of the sheet handed in then
-    tree-held-text : (store : List ℕ) → store ≡ tree-store tree empty-tree → answer .verdict ≡ Accepted
-        → sheet-text (answer .state) store sheet n ≡ text-of tree sheet n
-    tree-held-text store g h = go (judged-tree tree) refl
-      where
-        go : (j : TreeJudgement) → judged-tree tree ≡ j → sheet-text (answer .state) store sheet n ≡ text-of tree sheet n
-        go (refused-tree fault) f =
-            let met : Refused (Tree fault) ≡ Accepted =
-            sym (ap (λ (a : Answer). a .verdict) (answered-tree (refused-tree fault) f)) ∙ h in
-            let clash : _≡_ {A = ℕ} 0 1 = cc in
-            absurd (omega arith)
-        go (accepted-tree counts) f =
-            ap₂ (λ (s : State) (bytes : List ℕ). sheet-text s bytes sheet n)
-            (ap (λ (a : Answer). a .state) (answered-tree (accepted-tree counts) f))
-            (g ∙ tree-store-is (tree-verdict-is (accepted-tree counts) f))
-            ∙ tree-front-text (drop (length tree) empty-tree)
-            ∙ sym (text-of-by (accepted-tree counts) f)
-
-    -- the text put, of a refused tree
     pub tree-refused : (refusal : Refusal) → answer .verdict ≡ Refused refusal → (before after : List ℕ) (end : ℕ)
         → Put (refusal-line refusal) 0 before after end → Put (text-of tree sheet n) 0 before after end
-    tree-refused refusal h before after end put =
-        subst (λ (text : List ℕ). Put text 0 before after end) (sym (tree-refused-text refusal h)) put
+    tree-refused refusal h before after end =
+        by-verdict after-tree (tree-verdict tree empty-tree) (Refused refusal) (tree-verdict-is ∙ h) before after end
+        (text-of tree sheet n) text-of-is
 
-    -- and of one that is held
+    -- a tree at the front of its store is printed as the tree itself
+    tree-front-text : (store : List ℕ) → store ≡ tree-store tree empty-tree → answer .verdict ≡ Accepted
+        → sheet-text (answer .state) store sheet n ≡ after-tree Absent
+    unfolding sheet-text tree-answer tree-store
+    tree-front-text store g h =
+        let rest = drop (length tree) empty-tree in
+        let front : store ≡ tree ++ rest =
+        g ∙ ap (λ (v : Verdict). store-by v tree empty-tree) (tree-verdict-is ∙ h) in
+        let now-held =
+        state-is nothing-held tree-held-state answer (tree-verdict tree empty-tree) e (tree-verdict-is ∙ h) in
+        ap₂ (λ (s : State) (bytes : List ℕ). sheet-text s bytes sheet n) now-held front
+        ∙ ap₂ (λ (s : Standing) (bytes : List ℕ). text-by (sheet-refusal (judged-sheet sheet) or-else question-refusal s)
+        (levels-text bytes sheet n))
+        (standing-front-tree (length sheet) tree rest sheet n) (take-append-seam tree rest)
+
+    -- an accepted tree: the text of the sheet handed in then
     pub tree-held : (store : List ℕ) → store ≡ tree-store tree empty-tree → answer .verdict ≡ Accepted
         → (before after : List ℕ) (end : ℕ) → Put (sheet-text (answer .state) store sheet n) 0 before after end
         → Put (text-of tree sheet n) 0 before after end
     tree-held store g h before after end put =
-        subst (λ (text : List ℕ). Put text 0 before after end) (tree-held-text store g h) put
+        by-verdict after-tree (tree-verdict tree empty-tree) Accepted (tree-verdict-is ∙ h) before after end
+        (text-of tree sheet n) text-of-is
+        (subst (λ (text : List ℕ). Put text 0 before after end) (tree-front-text store g h) put)

@@ -1,9 +1,9 @@
 -- The loop over the levels: what is put so far, with the lines still to come, is the whole. Assumes nothing.
-use Prim.Native.Nat.{ℕ, zero, suc, _+_, _-_, _*_, _^_, _≤_, _<_}
+use Prim.Native.Nat.{ℕ, suc, _+_, _-_, _*_, _^_, _≤_, _<_}
 use native.Mathlib.Nat.{lt-of-le-of-lt}
 use native.Mathlib.Omega.{arith}
 use mathlib.Core.Path.{_≡_, refl, sym, ap, _∙_, subst}
-use mathlib.Core.List.{List, [], _∷_, _++_}
+use mathlib.Core.List.{List, [], _++_}
 use lib.ListN.{length, length-append}
 use lib.Dec.{lit<}
 use Rattle.monitor.specs.Question.{held-tree-bytes, held-sheet-bytes, report-of}
@@ -75,32 +75,32 @@ module _ (state : State) (tree-store sheet-store : List ℕ) (n : ℕ) (draft₀
         total = omega (arith, put .end-is, before .total, ap length whole, length-append line rest);
       }
 
-  module _ (draft : List ℕ) (end left : ℕ) (before : Printing state tree-store sheet-store n draft₀ place draft end left)
-    where
-      -- there is room for the next line
-      pub line-room : 0 < left → end + 37 ≤ length draft
-      line-room l = omega (arith, before .room)
+  module _ (draft : List ℕ) (end left : ℕ)
+      (before : Printing state tree-store sheet-store n draft₀ place draft end left) where
+    -- there is room for the next line
+    pub line-room : 0 < left → end + 37 ≤ length draft
+    line-room l = omega (arith, before .room)
 
-      -- and the next level is not above n
-      pub level-most : 0 < left → left - 1 ≤ n
-      level-most l = omega (arith, before .left-most)
+    -- and the next level is not above n
+    pub level-most : 0 < left → left - 1 ≤ n
+    level-most l = omega (arith, before .left-most)
 
-      -- with the next line put, one level less is to be put
-      pub printing-goes : 0 < left → (after : List ℕ) (last : ℕ) → length after ≡ length draft
-          → Put (level-line (left - 1) (report-of tree sheet (left - 1) n)) end draft after last → last ≤ end + 37
-          → Printing state tree-store sheet-store n draft₀ place after last (left - 1)
-      printing-goes l after last = turn draft after end last left (left - 1) (omega arith) before
+    -- with the next line put, one level less is to be put
+    pub printing-goes : 0 < left → (after : List ℕ) (last : ℕ) → length after ≡ length draft
+        → Put (level-line (left - 1) (report-of tree sheet (left - 1) n)) end draft after last → last ≤ end + 37
+        → Printing state tree-store sheet-store n draft₀ place after last (left - 1)
+    printing-goes l after last = turn draft after end last left (left - 1) (omega arith) before
 
-      -- in the end all are put
-      pub printing-ends : left ≤ 0
-          → Put (lines-below tree sheet n (suc n)) place draft₀ draft end
-      printing-ends l =
-          let none : left ≡ 0 = omega arith in
-          let rest : lines-below tree sheet n left ≡ [] = ap (lines-below tree sheet n) none in
-          record {
-            bytes =
-                sym (nothing-put draft end)
-                ∙ sym (ap (λ (text : List ℕ). with-text end text draft) rest)
-                ∙ before .bytes;
-            end-is = omega (arith, before .total, ap length rest);
-          }
+    -- in the end all are put
+    pub printing-ends : left ≤ 0
+        → Put (lines-below tree sheet n (suc n)) place draft₀ draft end
+    printing-ends l =
+        let none : left ≡ 0 = omega arith in
+        let rest : lines-below tree sheet n left ≡ [] = ap (lines-below tree sheet n) none in
+        record {
+          bytes =
+              sym (nothing-put draft end)
+              ∙ sym (ap (λ (text : List ℕ). with-text end text draft) rest)
+              ∙ before .bytes;
+          end-is = omega (arith, before .total, ap length rest);
+        }

@@ -1,14 +1,16 @@
--- What the printer shares. Assumes nothing.
-pub mod Digits
-pub mod Puts
-pub mod DecimalTurn
-pub mod Fields
-pub mod Lines
-pub mod Splitting
-pub mod Answers
-pub mod LevelsTurn
-pub mod Asking
-pub mod Holding
-pub mod Framing
-pub mod Finishing
+-- What the printer's proofs share, in the order of the argument: a number's digits; texts put one after another; a
+-- field; a line; the input's split; a level's answer, and the loop over the levels; the files that are held, and handed
+-- in; the whole text; its length, for callers. Assumes nothing.
+mod Digits
+mod Puts
+mod DecimalTurn
+mod Fields
+mod Lines
+mod Splitting
+mod Answers
+mod LevelsTurn
+mod Asking
+mod Holding
+mod Framing
+mod Finishing
 pub mod TextLength

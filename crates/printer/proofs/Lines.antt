@@ -2,11 +2,10 @@
 use Prim.Native.Nat.{ℕ, _+_, _^_, _≤_, _<_}
 use native.Mathlib.Nat.{lt-of-lt-of-le}
 use native.Mathlib.Omega.{arith}
-use mathlib.Core.Path.{_≡_, refl, sym, ap, ap₂, _∙_, subst}
-use mathlib.Core.Bool.{Bool}
+use mathlib.Core.Path.{_≡_, ap₂, _∙_, subst}
 use mathlib.Core.List.{List, [], _∷_, _++_, append-assoc}
 use lib.ListN.{length, length-append}
-use lib.Dec.{lit<, lit≤}
+use lib.Dec.{lit≤}
 use Rattle.monitor.specs.Refusals.{number-of, place-of}
 use Rattle.monitor.specs.declared.refusal.Refusal.{Refusal}
 use Rattle.monitor.specs.declared.question.Report.{Report}
@@ -67,11 +66,11 @@ module _ (draft : List ℕ) (room : 53 ≤ length draft) (number : ℕ) (l : num
         → (after : List ℕ) (last : ℕ) → Put (ended at-word 32 ++ ended (decimal place) 10) end between after last
         → Put (refusal-line refusal) 0 draft after last
     refusal-put refusal e f after last second =
-        let whole : (ended refused-word 32 ++ ended (decimal number) 32) ++ (ended at-word 32 ++ ended (decimal place) 10)
-        ≡ refusal-line refusal =
-        append-assoc (ended refused-word 32) (ended (decimal number) 32) (ended at-word 32 ++ ended (decimal place) 10)
-        ∙ ap₂ (λ (n p : ℕ). ended refused-word 32 ++ (ended (decimal n) 32 ++ (ended at-word 32 ++ ended (decimal p) 10)))
-        e f in
+        let placed = ended at-word 32 ++ ended (decimal place) 10 in
+        let whole : (ended refused-word 32 ++ ended (decimal number) 32) ++ placed ≡ refusal-line refusal =
+        append-assoc (ended refused-word 32) (ended (decimal number) 32) placed
+        ∙ ap₂ (λ (n p : ℕ). ended refused-word 32
+        ++ (ended (decimal n) 32 ++ (ended at-word 32 ++ ended (decimal p) 10))) e f in
         subst (λ (text : List ℕ). Put text 0 draft after last) whole (put-then (omega arith) first second)
 
 -- The header's counts.
@@ -100,7 +99,8 @@ module _ (draft : List ℕ) (place : ℕ) (room : place + 56 ≤ length draft) (
         )
 
     -- the counts
-    pub counts-put : (after : List ℕ) (last : ℕ) → Put (ended levels-word 32 ++ ended (decimal n) 10) end between after last
+    pub counts-put : (after : List ℕ) (last : ℕ)
+        → Put (ended levels-word 32 ++ ended (decimal n) 10) end between after last
         → Put (counts-text events n) place draft after last
     counts-put after last second =
         subst (λ (text : List ℕ). Put text place draft after last)
@@ -162,7 +162,8 @@ module _ (draft : List ℕ) (place : ℕ) (room : place + 26 ≤ length draft) (
 
     -- where they end
     pub ends-end : report .upper < 2 ^ 32 → (after : List ℕ) (last : ℕ)
-        → Put (ended (decimal (report .upper)) 32 ++ ended (mark (report .«upper_exact») ∷ []) 10) end between after last
+        → Put (ended (decimal (report .upper)) 32 ++ ended (mark (report .«upper_exact») ∷ []) 10)
+        end between after last
         → last ≤ place + 26
     ends-end h after last second =
         let low = end-end draft between (report .lower) place 32 (mark (report .«lower_exact»)) end l first in
@@ -171,7 +172,8 @@ module _ (draft : List ℕ) (place : ℕ) (room : place + 26 ≤ length draft) (
 
     -- both ends
     pub ends-put : (after : List ℕ) (last : ℕ)
-        → Put (ended (decimal (report .upper)) 32 ++ ended (mark (report .«upper_exact») ∷ []) 10) end between after last
+        → Put (ended (decimal (report .upper)) 32 ++ ended (mark (report .«upper_exact») ∷ []) 10)
+        end between after last
         → Put (ends-text report) place draft after last
     ends-put after last second =
         let upper = ended (decimal (report .upper)) 32 ++ ended (mark (report .«upper_exact») ∷ []) 10 in

@@ -1,6 +1,5 @@
 -- What splitting an input answers, by what its tests show. Assumes nothing.
 use Prim.Native.Nat.{ℕ, _+_, _≤_, _<_}
-use native.Mathlib.Omega.{arith}
 use mathlib.Core.Path.{_≡_, refl, sym, ap, ap₂, _∙_}
 use mathlib.Core.Bool.{Bool, true, false, _&&_, cond}
 use mathlib.Core.List.{List}
@@ -8,7 +7,7 @@ use lib.ListN.{length}
 use lib.Dec.{leb, eqb}
 use borrow.Author.Tests.{le-leb, lt-leb, eq-eqb, ne-eqb}
 use Rattle.tree_file.specs.Clauses.{Is16}
-use Rattle.printer.specs.Input.{level-count, tree-length, sheet-length, tree-end, lengths-good, well-framed, split-of}
+use Rattle.printer.specs.Input.{level-count, tree-length, sheet-length, tree-end, well-framed, split-of}
 use Rattle.printer.specs.declared.input.Split.{Split}
 use Rattle.printer.specs.declared.input.Split.the-variants.{Whole, Malformed}
 

@@ -100,6 +100,10 @@ text-by Absent levels = levels
 unfoldable pub text-of : List ℕ → List ℕ → ℕ → List ℕ
 text-of tree sheet n = text-by (first-refusal tree sheet n) (levels-text tree sheet n)
 
+-- No text is longer: a header of at most 82 bytes, and 1,001 lines of at most 37.
+abbrev pub most-text : ℕ
+most-text = 37119
+
 -- What is printed for an input, of whatever content and length.
 unfoldable pub whole-text : List ℕ → List ℕ
 whole-text input = cond (well-framed input) (text-of (tree-of input) (sheet-of input) (level-count input)) input-line

@@ -7,7 +7,7 @@ ghost use Rattle.printer.specs.Line.{ended, mark};
 ghost use Rattle.printer.specs.Put.{Put, Room};
 
 // The byte between two fields.
-const SPACE: u8 = 32;
+pub const SPACE: u8 = 32;
 
 // Puts a number and the byte after it, and answers where they end.
 pub fn put_number(number: usize, after: u8, draft: &mut [u8], place: usize) -> usize

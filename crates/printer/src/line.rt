@@ -1,4 +1,5 @@
 // The lines of the text.
+use crate::field::SPACE;
 use crate::field::put_end;
 use crate::field::put_labelled;
 use crate::field::put_number;
@@ -12,9 +13,7 @@ ghost use lib.ListN.{length};
 ghost use Rattle.printer.specs.Text.{input-line, refusal-line, header-line, level-line};
 ghost use Rattle.printer.specs.Put.{Put, counts-text, ends-text};
 
-// The byte between two fields, and the one after the last.
-const SPACE: u8 = 32;
-
+// The byte after the last field of a line.
 const LINE_FEED: u8 = 10;
 
 // Puts the line for an input whose lengths are not those of two files.

@@ -15,10 +15,13 @@ use tree_file::format::field_at;
 ghost use mathlib.Core.Path.{_≡_};
 ghost use Prim.Native.Nat.{_≤_};
 ghost use lib.ListN.{length};
-ghost use Rattle.printer.specs.Text.{text-of, whole-text};
+ghost use Rattle.printer.specs.Text.{most-text, text-of, whole-text};
 ghost use Rattle.printer.specs.Held.{held-text, sheet-text};
 ghost use Rattle.printer.specs.Printed.{answer-of, buffer-after, text-length};
 ghost use Rattle.printer.specs.Put.{Put};
+
+// No text is longer, so that a buffer of this length is never too short.
+pub const MOST_TEXT: usize = 37119;
 
 // The text's length: the text is complete in the buffer, or the buffer is too short for it and unchanged.
 pub enum Printed {
@@ -28,7 +31,7 @@ pub enum Printed {
 
 // Puts the text for the files that are held.
 fn put_held(state: State, tree_store: &[u8], sheet_store: &[u8], n: u32, draft: &mut [u8]) -> usize
-    requires { ⌜ 37119 ≤ length (now draft) ⌝ }
+    requires { ⌜ most-text ≤ length (now draft) ⌝ }
     ensures { λ r. ⌜ Put (held-text state (now («tree_store» .entry)) (now («sheet_store» .entry)) n)
         0 (now (draft .entry)) (now (draft .exit)) r ⌝ }
 {
@@ -46,7 +49,7 @@ fn put_held(state: State, tree_store: &[u8], sheet_store: &[u8], n: u32, draft: 
 // Hands in the sheet, and puts the text.
 fn put_with_sheet(state: State, tree_store: &[u8], sheet: &[u8], n: u32, draft: &mut [u8]) -> usize
     requires { ⌜ length (now sheet) ≤ 17434 ⌝ }
-    requires { ⌜ 37119 ≤ length (now draft) ⌝ }
+    requires { ⌜ most-text ≤ length (now draft) ⌝ }
     ensures { λ r. ⌜ Put (sheet-text state (now («tree_store» .entry)) (now (sheet .entry)) n)
         0 (now (draft .entry)) (now (draft .exit)) r ⌝ }
 {
@@ -63,7 +66,7 @@ fn put_with_sheet(state: State, tree_store: &[u8], sheet: &[u8], n: u32, draft: 
 fn put_with_both(tree: &[u8], sheet: &[u8], n: u32, draft: &mut [u8]) -> usize
     requires { ⌜ length (now tree) ≤ 7175 ⌝ }
     requires { ⌜ length (now sheet) ≤ 17434 ⌝ }
-    requires { ⌜ 37119 ≤ length (now draft) ⌝ }
+    requires { ⌜ most-text ≤ length (now draft) ⌝ }
     ensures { λ r. ⌜ Put (text-of (now (tree .entry)) (now (sheet .entry)) n)
         0 (now (draft .entry)) (now (draft .exit)) r ⌝ }
 {
@@ -82,7 +85,7 @@ fn put_with_both(tree: &[u8], sheet: &[u8], n: u32, draft: &mut [u8]) -> usize
 
 // Puts the text for an input.
 fn put_text(input: &[u8], draft: &mut [u8]) -> usize
-    requires { ⌜ 37119 ≤ length (now draft) ⌝ }
+    requires { ⌜ most-text ≤ length (now draft) ⌝ }
     ensures { λ r. ⌜ Put (whole-text (now (input .entry))) 0 (now (draft .entry)) (now (draft .exit)) r ⌝ }
 {
     let parts = split_input(input);
@@ -93,13 +96,13 @@ fn put_text(input: &[u8], draft: &mut [u8]) -> usize
     put_with_both(&input[6..end], &input[end..], whole.n, draft)
 }
 
-// Prints the levels of an input into a lent buffer. No text is longer than 37,119 bytes.
+// Prints the levels of an input into a lent buffer.
 pub fn print_levels(input: &[u8], buffer: &mut [u8]) -> Printed
     ensures { λ r. ⌜ r ≡ answer-of (now (input .entry)) (now (buffer .entry)) ⌝ }
     ensures { λ _. ⌜ now (buffer .exit) ≡ buffer-after (now (input .entry)) (now (buffer .entry)) ⌝ }
-    ensures { λ r. ⌜ text-length r ≤ 37119 ⌝ }
+    ensures { λ r. ⌜ text-length r ≤ most-text ⌝ }
 {
-    let mut draft = [0u8; 37119];
+    let mut draft = [0u8; MOST_TEXT];
     let length = put_text(input, &mut draft);
     if buffer.len() < length {
         return Printed::TooShort(length);

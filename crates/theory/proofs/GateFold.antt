@@ -1,5 +1,5 @@
--- A node's rounded end, input by input over stored ends: what a loop over a gate's links computes. AND and OR are one
--- fold that sees its inputs, turns its direction and answers by the kind of the gate. Assumes nothing.
+-- A node's rounded end, input by input over stored ends, is the fold that a loop over a gate's links computes.
+-- Assumes nothing.
 use Prim.Native.Nat.{ℕ, zero, suc, _+_, _≤_, _<_}
 use mathlib.Core.Path.{_≡_, refl, sym, ap, ap₂}
 use mathlib.Core.List.{List, [], _∷_, map}
@@ -7,25 +7,11 @@ use native.Mathlib.Nat.{add-zero, add-suc, zero-add}
 use native.Mathlib.Omega.{arith}
 use Rattle.theory.specs.Fraction.{Fraction}
 use Rattle.theory.specs.FaultTree.{GateKind, all, any, Tree}
-use Rattle.theory.specs.Rounding.{Direction, opposite, End, start, end-complement, step, cut-end, run, gate-end}
+use Rattle.theory.specs.Rounding.{Direction, End, start, cut-end, run, gate-end}
 use Rattle.theory.specs.Rounding.{rounded-end, all-ends}
+use Rattle.theory.specs.GateFold.{seen, turned, folded}
 use Rattle.theory.specs.NodeTable.{Node, event, joint, Table, inputs, build, tree-of, Has-link, Owns, Ranked}
 use Rattle.theory.proofs.TreeOf.{tree-unfolds}
-
--- the end of an input as the fold sees it, and the fold's outcome as the gate answers it
-abbrev pub seen : GateKind → ℕ → End → End
-seen all U x = x
-seen any U x = end-complement U x
-
--- the direction in which the fold rounds
-abbrev pub turned : GateKind → Direction → Direction
-turned all w = w
-turned any w = opposite w
-
--- the running number after the ends of links a, a + 1, .. : m of them, the last one added last
-abbrev pub folded : ℕ → Direction → (ℕ → End) → ℕ → ℕ → End
-folded U w ends a zero = start U
-folded U w ends a (suc m) = step U w (folded U w ends a m) (ends (a + m))
 
 -- a node's end by the stored ends of the nodes
 abbrev pub node-end : ℕ → Direction → (ℕ → Fraction) → (ℕ → End) → (ℕ → ℕ) → Node → End

@@ -11,5 +11,6 @@ pub mod Opinion
 pub mod Rounding
 pub mod Promise
 pub mod NodeTable
+pub mod GateFold
 pub mod Unit
 pub mod Examples

@@ -1,5 +1,5 @@
--- The table of an accepted file is numbered in the order of its nodes, its links lead to lower nodes, no node is linked twice,
--- and its last node is the root: what the theory of fault trees asks of a table.
+-- The table of an accepted file is numbered in the order of its nodes, its links lead to lower nodes, no node is linked
+-- twice, and its last node is the root: what the theory of fault trees asks of a table.
 -- Assumes nothing.
 use Prim.Native.Nat.{ℕ, zero, suc, _+_, _-_, _≤_, _<_}
 use mathlib.Core.Path.{_≡_, refl, sym, ap₂, _∙_}

@@ -2,8 +2,6 @@
 use crate::call::Question;
 use crate::desk::Desk;
 use crate::desk::with_state;
-use crate::fill::fill_bytes;
-use crate::fill::fill_units;
 use crate::print::print_after;
 use crate::print::print_marks;
 use crate::print::print_no_room;
@@ -80,7 +78,7 @@ fn print_outcome(outcome: Outcome) {
     }
 }
 
-// Questions a level, with fresh work slices; the state after it.
+// Questions a level; the state after it.
 fn state_after_question(
     state: State,
     tree: &[u8],
@@ -91,10 +89,6 @@ fn state_after_question(
     upper: &mut [u32],
     marks: &mut [u8],
 ) -> State {
-    fill_units(lower, 4000000001);
-    fill_units(upper, 4000000002);
-    let places = marks.len();
-    fill_bytes(marks, 0, places, 238);
     let reply = monitor::question::question(state, tree, sheet, k, n, lower, upper, marks);
     let outcome = reply.outcome;
     print_outcome(outcome);
@@ -147,7 +141,8 @@ fn question_with(
     after
 }
 
-pub fn call_question(
+// Questions a level with the front of the work slices, where they have room.
+fn question_within(
     desk: Desk,
     question: Question,
     tree: &[u8],
@@ -180,5 +175,21 @@ pub fn call_question(
         &mut lower[..lowers],
         &mut upper[..uppers],
         &mut marks[..places],
+    )
+}
+
+// Questions a level with fresh work slices, filled so that what a question leaves alone is seen.
+pub fn call_question(desk: Desk, question: Question, tree: &[u8], sheet: &[u8]) -> Desk {
+    let mut lower = [4000000001u32; 1100];
+    let mut upper = [4000000002u32; 1100];
+    let mut marks = [238u8; 1100];
+    question_within(
+        desk,
+        question,
+        tree,
+        sheet,
+        &mut lower,
+        &mut upper,
+        &mut marks,
     )
 }

@@ -63,35 +63,25 @@ fn sheet_handed_in(desk: Desk, length: usize, file: &[u8], store: &mut [u8]) -> 
     state_after_sheet(desk.state, &file[..length], &mut store[..room])
 }
 
-pub fn call_tree(
-    desk: Desk,
-    length: usize,
-    tree: &mut [u8],
-    sheet: &[u8],
-    file: &mut [u8],
-) -> Desk {
-    let room = read_file(length, file);
+pub fn call_tree(desk: Desk, length: usize, tree: &mut [u8], sheet: &[u8]) -> Desk {
+    let mut file = [0u8; 17500];
+    let room = read_file(length, &mut file);
     if !room {
         return desk;
     }
-    let state = tree_handed_in(desk, length, file, tree);
+    let state = tree_handed_in(desk, length, &file, tree);
     let after = with_state(desk, state);
     print_after(after, tree, sheet);
     after
 }
 
-pub fn call_sheet(
-    desk: Desk,
-    length: usize,
-    tree: &[u8],
-    sheet: &mut [u8],
-    file: &mut [u8],
-) -> Desk {
-    let room = read_file(length, file);
+pub fn call_sheet(desk: Desk, length: usize, tree: &[u8], sheet: &mut [u8]) -> Desk {
+    let mut file = [0u8; 17500];
+    let room = read_file(length, &mut file);
     if !room {
         return desk;
     }
-    let state = sheet_handed_in(desk, length, file, sheet);
+    let state = sheet_handed_in(desk, length, &file, sheet);
     let after = with_state(desk, state);
     print_after(after, tree, sheet);
     after

@@ -12,16 +12,5 @@ mod run;
 fn main() {
     let mut tree = [0u8; 7200];
     let mut sheet = [0u8; 17500];
-    let mut file = [0u8; 17500];
-    let mut lower = [0u32; 1100];
-    let mut upper = [0u32; 1100];
-    let mut marks = [0u8; 1100];
-    run::run(
-        &mut tree,
-        &mut sheet,
-        &mut file,
-        &mut lower,
-        &mut upper,
-        &mut marks,
-    );
+    run::run(&mut tree, &mut sheet);
 }

@@ -30,53 +30,29 @@ fn after_setting(desk: Desk, call: Call, tree: &mut [u8], sheet: &mut [u8]) -> D
 }
 
 // The desk after a hand-in, a drop or a setting.
-fn after_hand_in(
-    desk: Desk,
-    call: Call,
-    tree: &mut [u8],
-    sheet: &mut [u8],
-    file: &mut [u8],
-) -> Desk {
+fn after_hand_in(desk: Desk, call: Call, tree: &mut [u8], sheet: &mut [u8]) -> Desk {
     match call {
-        Call::Tree(length) => call_tree(desk, length, tree, sheet, file),
-        Call::Sheet(length) => call_sheet(desk, length, tree, sheet, file),
+        Call::Tree(length) => call_tree(desk, length, tree, sheet),
+        Call::Sheet(length) => call_sheet(desk, length, tree, sheet),
         Call::Drop => call_drop(desk, tree, sheet),
         _ => after_setting(desk, call, tree, sheet),
     }
 }
 
 // Answers a call and prints what there is after it: the desk for the next call.
-fn after_call(
-    desk: Desk,
-    call: Call,
-    tree: &mut [u8],
-    sheet: &mut [u8],
-    file: &mut [u8],
-    lower: &mut [u32],
-    upper: &mut [u32],
-    marks: &mut [u8],
-) -> Desk {
+fn after_call(desk: Desk, call: Call, tree: &mut [u8], sheet: &mut [u8]) -> Desk {
     match call {
         Call::Judge(k, n) => {
             call_judge(desk, k, n, tree, sheet);
             desk
         }
-        Call::Question(question) => {
-            call_question(desk, question, tree, sheet, lower, upper, marks)
-        }
-        _ => after_hand_in(desk, call, tree, sheet, file),
+        Call::Question(question) => call_question(desk, question, tree, sheet),
+        _ => after_hand_in(desk, call, tree, sheet),
     }
 }
 
 // A proved loop has to end, so there is a most number of calls.
-pub fn run(
-    tree: &mut [u8],
-    sheet: &mut [u8],
-    file: &mut [u8],
-    lower: &mut [u32],
-    upper: &mut [u32],
-    marks: &mut [u8],
-) {
+pub fn run(tree: &mut [u8], sheet: &mut [u8]) {
     let mut desk = empty_desk();
     let mut left: u64 = 100000;
     while left > 0 {
@@ -84,7 +60,7 @@ pub fn run(
         if let Call::End = call {
             return;
         }
-        desk = after_call(desk, call, tree, sheet, file, lower, upper, marks);
+        desk = after_call(desk, call, tree, sheet);
         left -= 1;
     }
 }

@@ -3,23 +3,16 @@ use borrow.Author.Needs.{needs}
 use Rattle.printer.proofs.TextLength.{counted-front}
 use Rattle.level_cases.proofs.answer_front.Statement.{statement}
 use Rattle.level_cases.proofs.answer_front.Tie as tie
-use Rattle.level_cases.proofs.answer_front.Reads as reads
-use Rattle.level_cases.proofs.answer_front.Lts as lts
-use Rattle.level_cases.proofs.answer.Reads as answer-reads
 
--- src/main.rt:35:9
 returns : tie.Need-returns
 returns c = search needs
 
--- src/main.rt:37:12
 slice-aggregate-answer : tie.Need-slice-aggregate-answer
 slice-aggregate-answer c = search (needs, counted-front)
 
--- src/main.rt:37:5
 answer-requires : tie.Need-answer-requires
 answer-requires c κs = search needs
 
--- src/main.rt:33:1
 returns-2 : tie.Need-returns-2
 returns-2 c = search needs
 

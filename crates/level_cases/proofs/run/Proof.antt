@@ -4,9 +4,6 @@ use lib.ListN.{length}
 use mathlib.Core.Path.{_≡_}
 use Rattle.level_cases.proofs.run.Statement.{statement}
 use Rattle.level_cases.proofs.run.Tie as tie
-use Rattle.level_cases.proofs.run.Reads as reads
-use Rattle.level_cases.proofs.run.Lts as lts
-use Rattle.level_cases.proofs.answer_next.Reads as answer-next-reads
 
 abbrev Inv-loop : tie.InvT-loop
 Inv-loop room₀ left₀ room left = length room ≡ length room₀
@@ -14,39 +11,30 @@ Inv-loop room₀ left₀ room left = length room ≡ length room₀
 abbrev μ-loop : tie.MeasureT-loop
 μ-loop room₀ left₀ room left = left
 
--- src/main.rt:52:5
 loop-holds : tie.Need-loop-holds Inv-loop μ-loop
 loop-holds c = search needs
 
--- src/main.rt:53:13
 answer-next-requires : tie.Need-answer-next-requires Inv-loop μ-loop
 answer-next-requires c κs = search needs
 
--- src/main.rt:54:13
 same-length : tie.Need-same-length Inv-loop μ-loop
 same-length c = search needs
 
--- src/main.rt:54:13
 returns : tie.Need-returns Inv-loop μ-loop
 returns c = search needs
 
--- src/main.rt:56:9
 sub-left : tie.Need-sub-left Inv-loop μ-loop
 sub-left c = search needs
 
--- src/main.rt:52:5
 loop-less : tie.Need-loop-less Inv-loop μ-loop
 loop-less c = search needs
 
--- src/main.rt:52:5
 loop-again : tie.Need-loop-again Inv-loop μ-loop
 loop-again c = search needs
 
--- src/main.rt:50:1
 same-length-2 : tie.Need-same-length-2 Inv-loop μ-loop
 same-length-2 c = search needs
 
--- src/main.rt:50:1
 returns-2 : tie.Need-returns-2 Inv-loop μ-loop
 returns-2 c = search needs
 

@@ -3,60 +3,43 @@ use borrow.Author.Needs.{needs}
 use Rattle.printer.proofs.TextLength.{complete-inside, complete-counted}
 use Rattle.levels.proofs.main.Statement.{statement}
 use Rattle.levels.proofs.main.Tie as tie
-use Rattle.levels.proofs.main.Reads as reads
-use Rattle.levels.proofs.main.Lts as lts
-use Rattle.io.proofs.read_full.Reads as read-full-reads
-use Rattle.io.proofs.write_all.Reads as write-all-reads
-use Rattle.printer.proofs.print.print_levels.Reads as print-levels-reads
 
--- src/main.rt:8:51
 slice-aggregate-read-full : tie.Need-slice-aggregate-read-full
 slice-aggregate-read-full c = search needs
 
--- src/main.rt:8:9
 read-full-requires : tie.Need-read-full-requires
 read-full-requires c κs = search needs
 
--- src/main.rt:10:32
 array-share-prefix-input : tie.Need-array-share-prefix-input
 array-share-prefix-input c = search needs
 
--- src/main.rt:10:32
 slice-aggregate-print-levels : tie.Need-slice-aggregate-print-levels
 slice-aggregate-print-levels c = search needs
 
--- src/main.rt:10:49
 slice-aggregate-print-levels-2 : tie.Need-slice-aggregate-print-levels-2
 slice-aggregate-print-levels-2 c = search needs
 
--- src/main.rt:10:9
 print-levels-requires : tie.Need-print-levels-requires
 print-levels-requires c κs = search needs
 
--- src/main.rt:11:30
 enum-known-printed : tie.Need-enum-known-printed
 enum-known-printed c = search needs
 
--- src/main.rt:12:44
 array-share-prefix-text : tie.Need-array-share-prefix-text
 array-share-prefix-text c = search (needs, complete-inside)
 
--- src/main.rt:12:44
 slice-aggregate-write-all : tie.Need-slice-aggregate-write-all
 slice-aggregate-write-all c = search (needs, complete-counted)
 
--- src/main.rt:12:9
 write-all-requires : tie.Need-write-all-requires
 write-all-requires c κs = search needs
 
 enum-told : tie.Need-enum-told
 enum-told c = search needs
 
--- src/main.rt:5:1
 returns : tie.Need-returns
 returns c = search needs
 
--- src/main.rt:5:1
 returns-2 : tie.Need-returns-2
 returns-2 c = search needs
 

@@ -18,51 +18,40 @@ Inv-loop sheet at experts expert₀ expert = (expert ≤ experts) × (spoke-amon
 abbrev μ-loop : tie.MeasureT-loop
 μ-loop sheet at experts expert₀ expert = experts - expert
 
--- src/opinions.rt:44:19
 byte-at-requires : tie.Need-byte-at-requires Inv-loop μ-loop
 byte-at-requires c κs = search needs
 
--- src/opinions.rt:44:19
 cast-experts : tie.Need-cast-experts Inv-loop μ-loop
 cast-experts c = search needs
 
--- src/opinions.rt:46:5
 loop-holds : tie.Need-loop-holds Inv-loop μ-loop
 loop-holds c = (omega arith, spoke-none _ _)
 
--- src/opinions.rt:47:35
 add-byte-at : tie.Need-add-byte-at Inv-loop μ-loop
 add-byte-at c = omega arith
 
--- src/opinions.rt:47:35
 add-byte-at-2 : tie.Need-add-byte-at-2 Inv-loop μ-loop
 add-byte-at-2 c = omega arith
 
--- src/opinions.rt:47:13
 byte-at-requires-2 : tie.Need-byte-at-requires-2 Inv-loop μ-loop
 byte-at-requires-2 c κs = omega arith
 
--- src/opinions.rt:49:13
 returns : tie.Need-returns Inv-loop μ-loop
 returns c =
     sym (spoke-found _ _ _ _ (omega arith) (λ e. c .if1 .taken (c .before .byte-at2 .ensures .0 ∙ e)))
 
--- src/opinions.rt:51:9
 add-expert : tie.Need-add-expert Inv-loop μ-loop
 add-expert c = omega arith
 
--- src/opinions.rt:46:5
 loop-less : tie.Need-loop-less Inv-loop μ-loop
 loop-less c = omega arith
 
--- src/opinions.rt:46:5
 loop-again : tie.Need-loop-again Inv-loop μ-loop
 loop-again c = (
   omega arith,
   spoke-more _ _ _ (c .before .before .before .loop .inv .1) (sym (c .before .byte-at2 .ensures .0) ∙ c .if1 .left),
 )
 
--- src/opinions.rt:40:1
 returns-2 : tie.Need-returns-2 Inv-loop μ-loop
 returns-2 c =
     let start = c .before .before .before .before in

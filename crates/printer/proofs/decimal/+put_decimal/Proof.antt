@@ -24,7 +24,6 @@ abbrev put-decimal-below : ℕ → In 1 put-decimal-kinds.ps
 put-decimal-below t =
     and 1 put-decimal-kinds.ps (falls 1 put-decimal-kinds.ps _<_ μ-put-decimal t) put-decimal.Pre
 
--- src/decimal.rt:21:24
 put-decimal-digit-of-requires : (t : ℕ) → put-decimal-lts.Need-digit-of-requires (
   digit-of-reads.Asked,
   digit-of-reads.Learnt,
@@ -33,7 +32,6 @@ put-decimal-digit-of-requires : (t : ℕ) → put-decimal-lts.Need-digit-of-requ
 ) (put-decimal-at t) put-decimal.Post
 put-decimal-digit-of-requires t c κs = search needs
 
--- src/decimal.rt:21:9
 put-decimal-slice-write-draft : (t : ℕ) → put-decimal-lts.Need-slice-write-draft (
   digit-of-reads.Asked,
   digit-of-reads.Learnt,
@@ -42,7 +40,6 @@ put-decimal-slice-write-draft : (t : ℕ) → put-decimal-lts.Need-slice-write-d
 ) (put-decimal-at t) put-decimal.Post
 put-decimal-slice-write-draft t c = search one-inside
 
--- src/decimal.rt:22:16
 put-decimal-add-result : (t : ℕ) → put-decimal-lts.Need-add-result (
   digit-of-reads.Asked,
   digit-of-reads.Learnt,
@@ -51,7 +48,6 @@ put-decimal-add-result : (t : ℕ) → put-decimal-lts.Need-add-result (
 ) (put-decimal-at t) put-decimal.Post
 put-decimal-add-result t c = search (needs, one-inside)
 
--- src/decimal.rt:22:9
 put-decimal-same-length : (t : ℕ) → put-decimal-lts.Need-same-length (
   digit-of-reads.Asked,
   digit-of-reads.Learnt,
@@ -60,7 +56,6 @@ put-decimal-same-length : (t : ℕ) → put-decimal-lts.Need-same-length (
 ) (put-decimal-at t) put-decimal.Post
 put-decimal-same-length t c = search needs
 
--- src/decimal.rt:22:9
 put-decimal-returns : (t : ℕ) → put-decimal-lts.Need-returns (
   digit-of-reads.Asked,
   digit-of-reads.Learnt,
@@ -69,7 +64,6 @@ put-decimal-returns : (t : ℕ) → put-decimal-lts.Need-returns (
 ) (put-decimal-at t) put-decimal.Post
 put-decimal-returns t c = search one-put
 
--- src/decimal.rt:24:9
 put-decimal-put-decimal-requires : (t : ℕ) → put-decimal-lts.Need-put-decimal-requires (
   digit-of-reads.Asked,
   digit-of-reads.Learnt,
@@ -78,7 +72,6 @@ put-decimal-put-decimal-requires : (t : ℕ) → put-decimal-lts.Need-put-decima
 ) (put-decimal-at t) put-decimal.Post
 put-decimal-put-decimal-requires t c κs = search (needs, tenth-falls, tenth-room)
 
--- src/decimal.rt:25:18
 put-decimal-digit-of-requires-2 : (t : ℕ) → put-decimal-lts.Need-digit-of-requires-2 (
   digit-of-reads.Asked,
   digit-of-reads.Learnt,
@@ -87,7 +80,6 @@ put-decimal-digit-of-requires-2 : (t : ℕ) → put-decimal-lts.Need-digit-of-re
 ) (put-decimal-at t) put-decimal.Post
 put-decimal-digit-of-requires-2 t c κs = search needs
 
--- src/decimal.rt:25:5
 put-decimal-slice-write-draft-2 : (t : ℕ) → put-decimal-lts.Need-slice-write-draft-2 (
   digit-of-reads.Asked,
   digit-of-reads.Learnt,
@@ -96,7 +88,6 @@ put-decimal-slice-write-draft-2 : (t : ℕ) → put-decimal-lts.Need-slice-write
 ) (put-decimal-at t) put-decimal.Post
 put-decimal-slice-write-draft-2 t c = search last-inside
 
--- src/decimal.rt:26:5
 put-decimal-add-result-2 : (t : ℕ) → put-decimal-lts.Need-add-result-2 (
   digit-of-reads.Asked,
   digit-of-reads.Learnt,
@@ -105,7 +96,6 @@ put-decimal-add-result-2 : (t : ℕ) → put-decimal-lts.Need-add-result-2 (
 ) (put-decimal-at t) put-decimal.Post
 put-decimal-add-result-2 t c = search last-within
 
--- src/decimal.rt:16:1
 put-decimal-same-length-2 : (t : ℕ) → put-decimal-lts.Need-same-length-2 (
   digit-of-reads.Asked,
   digit-of-reads.Learnt,
@@ -114,7 +104,6 @@ put-decimal-same-length-2 : (t : ℕ) → put-decimal-lts.Need-same-length-2 (
 ) (put-decimal-at t) put-decimal.Post
 put-decimal-same-length-2 t c = search needs
 
--- src/decimal.rt:16:1
 put-decimal-returns-2 : (t : ℕ) → put-decimal-lts.Need-returns-2 (
   digit-of-reads.Asked,
   digit-of-reads.Learnt,

@@ -3,24 +3,16 @@ use borrow.Author.Needs.{needs}
 use Rattle.printer.proofs.Puts.{first-room, next-room, both-put}
 use Rattle.printer.proofs.field.put_end.Statement.{statement}
 use Rattle.printer.proofs.field.put_end.Tie as tie
-use Rattle.printer.proofs.field.put_end.Reads as reads
-use Rattle.printer.proofs.field.put_end.Lts as lts
-use Rattle.printer.proofs.field.put_mark.Reads as put-mark-reads
-use Rattle.printer.proofs.field.put_number.Reads as put-number-reads
 
--- src/field.rt:69:9
 put-number-requires : tie.Need-put-number-requires
 put-number-requires c κs = search first-room
 
--- src/field.rt:70:5
 put-mark-requires : tie.Need-put-mark-requires
 put-mark-requires c κs = search next-room
 
--- src/field.rt:64:1
 same-length : tie.Need-same-length
 same-length c = search needs
 
--- src/field.rt:64:1
 returns : tie.Need-returns
 returns c = search both-put
 

@@ -3,52 +3,37 @@ use borrow.Author.Needs.{needs}
 use Rattle.printer.proofs.Splitting.{too-few, other-length, tree-long, sheet-long, both-right}
 use Rattle.printer.proofs.input.split_input.Statement.{statement}
 use Rattle.printer.proofs.input.split_input.Tie as tie
-use Rattle.printer.proofs.input.split_input.Reads as reads
-use Rattle.printer.proofs.input.split_input.Lts as lts
-use Rattle.printer.proofs.input.required_length.Reads as required-length-reads
-use Rattle.tree_file.proofs.format.field_at.Reads as field-at-reads
 
--- src/input.rt:32:9
 returns : tie.Need-returns
 returns c = search too-few
 
--- src/input.rt:34:9
 field-at-requires : tie.Need-field-at-requires
 field-at-requires c κs = search needs
 
--- src/input.rt:35:9
 field-at-requires-2 : tie.Need-field-at-requires-2
 field-at-requires-2 c κs = search needs
 
--- src/input.rt:36:9
 required-length-requires : tie.Need-required-length-requires
 required-length-requires c κs = search needs
 
--- src/input.rt:38:9
 returns-2 : tie.Need-returns-2
 returns-2 c = search other-length
 
--- src/input.rt:41:9
 returns-3 : tie.Need-returns-3
 returns-3 c = search tree-long
 
--- src/input.rt:44:9
 returns-4 : tie.Need-returns-4
 returns-4 c = search sheet-long
 
--- src/input.rt:47:12
 field-at-requires-3 : tie.Need-field-at-requires-3
 field-at-requires-3 c κs = search needs
 
--- src/input.rt:47:12
 cast-t7 : tie.Need-cast-t7
 cast-t7 c = search needs
 
--- src/input.rt:48:19
 add-t8 : tie.Need-add-t8
 add-t8 c = search needs
 
--- src/input.rt:28:1
 returns-5 : tie.Need-returns-5
 returns-5 c = search both-right
 

@@ -3,27 +3,19 @@ use borrow.Author.Needs.{needs}
 use Rattle.printer.proofs.Answers.{outcome-read}
 use Rattle.printer.proofs.levels.outcome_at.Statement.{statement}
 use Rattle.printer.proofs.levels.outcome_at.Tie as tie
-use Rattle.printer.proofs.levels.outcome_at.Reads as reads
-use Rattle.printer.proofs.levels.outcome_at.Lts as lts
-use Rattle.monitor.proofs.question.question.Reads as question-reads
 
--- src/levels.rt:27:9
 slice-aggregate-question : tie.Need-slice-aggregate-question
 slice-aggregate-question c = search needs
 
--- src/levels.rt:28:9
 slice-aggregate-question-2 : tie.Need-slice-aggregate-question-2
 slice-aggregate-question-2 c = search needs
 
--- src/levels.rt:29:9
 slice-aggregate-question-3 : tie.Need-slice-aggregate-question-3
 slice-aggregate-question-3 c = search needs
 
--- src/levels.rt:21:9
 question-requires : tie.Need-question-requires
 question-requires c κs = search needs
 
--- src/levels.rt:15:1
 returns : tie.Need-returns
 returns c = search outcome-read
 

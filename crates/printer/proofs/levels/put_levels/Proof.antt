@@ -1,12 +1,9 @@
 -- `printer::levels::put_levels` meets its contract: `Printing` holds at each turn. Assumes nothing.
 use borrow.Author.Needs.{needs}
-use Rattle.printer.proofs.LevelsTurn.{Printing, count-fits, printing-starts, line-room, level-most, printing-goes}
-use Rattle.printer.proofs.LevelsTurn.{printing-ends}
+use Rattle.printer.proofs.LevelsTurn.{Printing, count-fits, printing-starts, line-room, level-most}
+use Rattle.printer.proofs.LevelsTurn.{printing-goes, printing-ends}
 use Rattle.printer.proofs.levels.put_levels.Statement.{statement}
 use Rattle.printer.proofs.levels.put_levels.Tie as tie
-use Rattle.printer.proofs.levels.put_levels.Reads as reads
-use Rattle.printer.proofs.levels.put_levels.Lts as lts
-use Rattle.printer.proofs.levels.put_level_at.Reads as put-level-at-reads
 
 abbrev Inv-loop : tie.InvT-loop
 Inv-loop state tree-store sheet-store n draft₀ place end₀ left₀ draft end left =
@@ -15,35 +12,27 @@ Inv-loop state tree-store sheet-store n draft₀ place end₀ left₀ draft end 
 abbrev μ-loop : tie.MeasureT-loop
 μ-loop state tree-store sheet-store n draft₀ place end₀ left₀ draft end left = left
 
--- src/levels.rt:75:20
 add-left : tie.Need-add-left Inv-loop μ-loop
 add-left c = search count-fits
 
--- src/levels.rt:76:5
 loop-holds : tie.Need-loop-holds Inv-loop μ-loop
 loop-holds c = search printing-starts
 
--- src/levels.rt:77:9
 sub-left : tie.Need-sub-left Inv-loop μ-loop
 sub-left c = search needs
 
--- src/levels.rt:78:9
 put-level-at-requires : tie.Need-put-level-at-requires Inv-loop μ-loop
 put-level-at-requires c κs = search (line-room, level-most)
 
--- src/levels.rt:76:5
 loop-less : tie.Need-loop-less Inv-loop μ-loop
 loop-less c = search needs
 
--- src/levels.rt:76:5
 loop-again : tie.Need-loop-again Inv-loop μ-loop
 loop-again c = search printing-goes
 
--- src/levels.rt:60:1
 same-length : tie.Need-same-length Inv-loop μ-loop
 same-length c = search needs
 
--- src/levels.rt:60:1
 returns : tie.Need-returns Inv-loop μ-loop
 returns c = search printing-ends
 

@@ -3,31 +3,22 @@ use borrow.Author.Needs.{needs}
 use Rattle.printer.proofs.Lines.{counts-room, counts-next, counts-put, counts-end}
 use Rattle.printer.proofs.line.put_counts.Statement.{statement}
 use Rattle.printer.proofs.line.put_counts.Tie as tie
-use Rattle.printer.proofs.line.put_counts.Reads as reads
-use Rattle.printer.proofs.line.put_counts.Lts as lts
-use Rattle.printer.proofs.field.put_labelled.Reads as put-labelled-reads
 
--- src/line.rt:44:28
 slice-aggregate-put-labelled : tie.Need-slice-aggregate-put-labelled
 slice-aggregate-put-labelled c = search needs
 
--- src/line.rt:44:9
 put-labelled-requires : tie.Need-put-labelled-requires
 put-labelled-requires c κs = search counts-room
 
--- src/line.rt:45:18
 slice-aggregate-put-labelled-2 : tie.Need-slice-aggregate-put-labelled-2
 slice-aggregate-put-labelled-2 c = search needs
 
--- src/line.rt:45:5
 put-labelled-requires-2 : tie.Need-put-labelled-requires-2
 put-labelled-requires-2 c κs = search counts-next
 
--- src/line.rt:40:1
 same-length : tie.Need-same-length
 same-length c = search needs
 
--- src/line.rt:40:1
 returns : tie.Need-returns
 returns c = search (counts-put, counts-end)
 

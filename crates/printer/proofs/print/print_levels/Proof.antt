@@ -4,41 +4,29 @@ use Rattle.printer.proofs.Finishing.{text-inside, text-most, front-coun
 use Rattle.printer.proofs.Finishing.{front-fits, complete-answer, complete-buffer}
 use Rattle.printer.proofs.print.print_levels.Statement.{statement}
 use Rattle.printer.proofs.print.print_levels.Tie as tie
-use Rattle.printer.proofs.print.print_levels.Reads as reads
-use Rattle.printer.proofs.print.print_levels.Lts as lts
-use Rattle.bytes.proofs.copy.Reads as copy-reads
-use Rattle.printer.proofs.print.put_text.Reads as put-text-reads
 
--- src/print.rt:103:34
 slice-aggregate-put-text : tie.Need-slice-aggregate-put-text
 slice-aggregate-put-text c = search needs
 
--- src/print.rt:103:9
 put-text-requires : tie.Need-put-text-requires
 put-text-requires c κs = search needs
 
--- src/print.rt:105:9
 returns : tie.Need-returns
 returns c =
     (search too-short-answer, (search too-short-buffer, search text-most))
 
--- src/print.rt:107:17
 array-share-prefix-draft : tie.Need-array-share-prefix-draft
 array-share-prefix-draft c = search text-inside
 
--- src/print.rt:107:17
 slice-aggregate-copy : tie.Need-slice-aggregate-copy
 slice-aggregate-copy c = search front-counted
 
--- src/print.rt:107:5
 copy-requires : tie.Need-copy-requires
 copy-requires c κs = search front-fits
 
--- src/print.rt:97:1
 same-length : tie.Need-same-length
 same-length c = search needs
 
--- src/print.rt:97:1
 returns-2 : tie.Need-returns-2
 returns-2 c =
     (search complete-answer, (search complete-buffer, search text-most))

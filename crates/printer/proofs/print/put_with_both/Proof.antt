@@ -3,52 +3,37 @@ use borrow.Author.Needs.{needs}
 use Rattle.printer.proofs.Holding.{tree-refused, tree-held}
 use Rattle.printer.proofs.print.put_with_both.Statement.{statement}
 use Rattle.printer.proofs.print.put_with_both.Tie as tie
-use Rattle.printer.proofs.print.put_with_both.Reads as reads
-use Rattle.printer.proofs.print.put_with_both.Lts as lts
-use Rattle.monitor.proofs.hand_in.hand_in_tree.Reads as hand-in-tree-reads
-use Rattle.printer.proofs.line.put_refusal.Reads as put-refusal-reads
-use Rattle.printer.proofs.print.put_with_sheet.Reads as put-with-sheet-reads
 
--- src/print.rt:75:46
 slice-aggregate-hand-in-tree : tie.Need-slice-aggregate-hand-in-tree
 slice-aggregate-hand-in-tree c = search needs
 
--- src/print.rt:75:9
 hand-in-tree-requires : tie.Need-hand-in-tree-requires
 hand-in-tree-requires c κs = search needs
 
--- src/print.rt:77:29
 enum-known-verdict : tie.Need-enum-known-verdict
 enum-known-verdict c = search needs
 
--- src/print.rt:78:9
 put-refusal-requires : tie.Need-put-refusal-requires
 put-refusal-requires c κs = search needs
 
--- src/print.rt:78:9
 same-length : tie.Need-same-length
 same-length c = search needs
 
--- src/print.rt:78:9
 returns : tie.Need-returns
 returns c = search tree-refused
 
 enum-told : tie.Need-enum-told
 enum-told c = search needs
 
--- src/print.rt:80:34
 slice-aggregate-put-with-sheet : tie.Need-slice-aggregate-put-with-sheet
 slice-aggregate-put-with-sheet c = search needs
 
--- src/print.rt:80:5
 put-with-sheet-requires : tie.Need-put-with-sheet-requires
 put-with-sheet-requires c κs = search needs
 
--- src/print.rt:63:1
 same-length-2 : tie.Need-same-length-2
 same-length-2 c = search needs
 
--- src/print.rt:63:1
 returns-2 : tie.Need-returns-2
 returns-2 c = search tree-held
 

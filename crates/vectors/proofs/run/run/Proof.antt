@@ -6,13 +6,11 @@ use Rattle.vectors.proofs.run.run.Statement.{statement}
 use Rattle.vectors.proofs.run.run.Tie as tie
 
 abbrev Inv-loop : tie.InvT-loop
-Inv-loop tree₀ sheet₀ file₀ lower₀ upper₀ marks₀ desk₀ left₀ tree sheet file lower upper marks desk left =
-    (length tree ≡ length tree₀) × (length sheet ≡ length sheet₀) × (length file ≡ length file₀)
-    × (length lower ≡ length lower₀) × (length upper ≡ length upper₀) × (length marks ≡ length marks₀)
+Inv-loop tree₀ sheet₀ desk₀ left₀ tree sheet desk left =
+    (length tree ≡ length tree₀) × (length sheet ≡ length sheet₀)
 
 abbrev μ-loop : tie.MeasureT-loop
-μ-loop tree₀ sheet₀ file₀ lower₀ upper₀ marks₀ desk₀ left₀ tree sheet file lower upper marks desk left =
-    left
+μ-loop tree₀ sheet₀ desk₀ left₀ tree sheet desk left = left
 
 empty-desk-requires : tie.Need-empty-desk-requires Inv-loop μ-loop
 empty-desk-requires c κs = search needs
@@ -32,18 +30,6 @@ same-length c = search needs
 same-length-2 : tie.Need-same-length-2 Inv-loop μ-loop
 same-length-2 c = search needs
 
-same-length-3 : tie.Need-same-length-3 Inv-loop μ-loop
-same-length-3 c = search needs
-
-same-length-4 : tie.Need-same-length-4 Inv-loop μ-loop
-same-length-4 c = search needs
-
-same-length-5 : tie.Need-same-length-5 Inv-loop μ-loop
-same-length-5 c = search needs
-
-same-length-6 : tie.Need-same-length-6 Inv-loop μ-loop
-same-length-6 c = search needs
-
 returns : tie.Need-returns Inv-loop μ-loop
 returns c = search needs
 
@@ -59,23 +45,11 @@ loop-less c = search needs
 loop-again : tie.Need-loop-again Inv-loop μ-loop
 loop-again c = search needs
 
-same-length-7 : tie.Need-same-length-7 Inv-loop μ-loop
-same-length-7 c = search needs
+same-length-3 : tie.Need-same-length-3 Inv-loop μ-loop
+same-length-3 c = search needs
 
-same-length-8 : tie.Need-same-length-8 Inv-loop μ-loop
-same-length-8 c = search needs
-
-same-length-9 : tie.Need-same-length-9 Inv-loop μ-loop
-same-length-9 c = search needs
-
-same-length-10 : tie.Need-same-length-10 Inv-loop μ-loop
-same-length-10 c = search needs
-
-same-length-11 : tie.Need-same-length-11 Inv-loop μ-loop
-same-length-11 c = search needs
-
-same-length-12 : tie.Need-same-length-12 Inv-loop μ-loop
-same-length-12 c = search needs
+same-length-4 : tie.Need-same-length-4 Inv-loop μ-loop
+same-length-4 c = search needs
 
 returns-2 : tie.Need-returns-2 Inv-loop μ-loop
 returns-2 c = search needs
@@ -92,19 +66,11 @@ run-spec =
     enum-told
     same-length
     same-length-2
-    same-length-3
-    same-length-4
-    same-length-5
-    same-length-6
     returns
     after-call-requires
     sub-left
     loop-less
     loop-again
-    same-length-7
-    same-length-8
-    same-length-9
-    same-length-10
-    same-length-11
-    same-length-12
+    same-length-3
+    same-length-4
     returns-2)

@@ -1,9 +1,9 @@
--- `vectors::ask::call_question` is safe and ends. Assumes nothing.
+-- `vectors::ask::question_within` is safe and ends. Assumes nothing.
 use lib.ListN.{length}
 use borrow.Author.Needs.{needs}
 use Rattle.vectors.proofs.Front.{counted-front}
-use Rattle.vectors.proofs.ask.call_question.Statement.{statement}
-use Rattle.vectors.proofs.ask.call_question.Tie as tie
+use Rattle.vectors.proofs.ask.question_within.Statement.{statement}
+use Rattle.vectors.proofs.ask.question_within.Tie as tie
 
 print-no-room-requires : tie.Need-print-no-room-requires
 print-no-room-requires c κs = search needs
@@ -56,8 +56,8 @@ same-length-3 c = search needs
 returns-4 : tie.Need-returns-4
 returns-4 c = search needs
 
-pub call-question-spec : {M : Type 1} → statement M
-call-question-spec =
+pub question-within-spec : {M : Type 1} → statement M
+question-within-spec =
     tie.close
     (tie.spec
     print-no-room-requires
