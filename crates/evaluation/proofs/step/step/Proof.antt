@@ -5,7 +5,7 @@ use Rattle.evaluation.proofs.step.step.Statement.{statement}
 use Rattle.evaluation.proofs.step.step.Tie as tie
 
 mul-product : tie.Need-mul-product
-mul-product c = search product-fits
+mul-product c = search (needs, product-fits)
 
 rounded-up-requires : tie.Need-rounded-up-requires
 rounded-up-requires c κs =

@@ -13,7 +13,7 @@ abbrev μ-loop : tie.MeasureT-loop
 μ-loop state tree-store sheet-store n draft₀ place end₀ left₀ draft end left = left
 
 add-left : tie.Need-add-left Inv-loop μ-loop
-add-left c = search count-fits
+add-left c = search (needs, count-fits)
 
 loop-holds : tie.Need-loop-holds Inv-loop μ-loop
 loop-holds c = search printing-starts
