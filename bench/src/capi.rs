@@ -1,4 +1,5 @@
-//! The C interface, declared as in include/nekbrod.h, with a safe function for each call.
+//! The C interface, declared as in include/nekbrod.h, with a safe function for each call. Two libraries have it: the
+//! proved one, and the peer.
 
 /// The probability 1 in units.
 pub const ONE: u32 = 1_000_000_000;
@@ -45,51 +46,92 @@ pub struct Reply {
     pub events: usize,
 }
 
-mod declared {
-    use super::{Answer, Reply, Standing, State};
+type HandIn = unsafe extern "C" fn(State, *const u8, usize, *mut u8, usize) -> Answer;
+type Judge = unsafe extern "C" fn(State, *const u8, usize, *const u8, usize, u32, u32) -> Standing;
+#[rustfmt::skip]
+type Question = unsafe extern "C" fn(
+    State, *const u8, usize, *const u8, usize, u32, u32, *mut u32, usize, *mut u32, usize, *mut u8, usize,
+) -> Reply;
 
-    extern "C" {
-        pub fn nekbrod_hand_in_tree(
-            state: State,
-            file: *const u8,
-            file_len: usize,
-            tree_store: *mut u8,
-            tree_store_len: usize,
-        ) -> Answer;
-        pub fn nekbrod_hand_in_sheet(
-            state: State,
-            sheet: *const u8,
-            sheet_len: usize,
-            sheet_store: *mut u8,
-            sheet_store_len: usize,
-        ) -> Answer;
-        pub fn nekbrod_drop_both(state: State) -> State;
-        pub fn nekbrod_judge(
-            state: State,
-            tree_store: *const u8,
-            tree_store_len: usize,
-            sheet_store: *const u8,
-            sheet_store_len: usize,
-            k: u32,
-            n: u32,
-        ) -> Standing;
-        pub fn nekbrod_question(
-            state: State,
-            tree_store: *const u8,
-            tree_store_len: usize,
-            sheet_store: *const u8,
-            sheet_store_len: usize,
-            k: u32,
-            n: u32,
-            lower: *mut u32,
-            lower_len: usize,
-            upper: *mut u32,
-            upper_len: usize,
-            marks: *mut u8,
-            marks_len: usize,
-        ) -> Reply;
-    }
+/// A library with the calls of the header.
+#[derive(Clone, Copy)]
+pub struct Library {
+    pub name: &'static str,
+    hand_in_tree: HandIn,
+    hand_in_sheet: HandIn,
+    drop_both: unsafe extern "C" fn(State) -> State,
+    judge: Judge,
+    question: Question,
 }
+
+/// The library whose calls have these names.
+macro_rules! declared_library {
+    ($name:literal, $hand_in_tree:ident, $hand_in_sheet:ident, $drop_both:ident, $judge:ident, $question:ident) => {{
+        extern "C" {
+            fn $hand_in_tree(
+                state: State,
+                file: *const u8,
+                file_len: usize,
+                tree_store: *mut u8,
+                tree_store_len: usize,
+            ) -> Answer;
+            fn $hand_in_sheet(
+                state: State,
+                sheet: *const u8,
+                sheet_len: usize,
+                sheet_store: *mut u8,
+                sheet_store_len: usize,
+            ) -> Answer;
+            fn $drop_both(state: State) -> State;
+            fn $judge(
+                state: State,
+                tree_store: *const u8,
+                tree_store_len: usize,
+                sheet_store: *const u8,
+                sheet_store_len: usize,
+                k: u32,
+                n: u32,
+            ) -> Standing;
+            fn $question(
+                state: State,
+                tree_store: *const u8,
+                tree_store_len: usize,
+                sheet_store: *const u8,
+                sheet_store_len: usize,
+                k: u32,
+                n: u32,
+                lower: *mut u32,
+                lower_len: usize,
+                upper: *mut u32,
+                upper_len: usize,
+                marks: *mut u8,
+                marks_len: usize,
+            ) -> Reply;
+        }
+        Library {
+            name: $name,
+            hand_in_tree: $hand_in_tree,
+            hand_in_sheet: $hand_in_sheet,
+            drop_both: $drop_both,
+            judge: $judge,
+            question: $question,
+        }
+    }};
+}
+
+/// The proved library.
+pub const CAPI: Library = declared_library!(
+    "capi",
+    nekbrod_hand_in_tree,
+    nekbrod_hand_in_sheet,
+    nekbrod_drop_both,
+    nekbrod_judge,
+    nekbrod_question
+);
+
+/// The plain C program, src/peer.c.
+pub const PEER: Library =
+    declared_library!("peer", peer_hand_in_tree, peer_hand_in_sheet, peer_drop_both, peer_judge, peer_question);
 
 /// An empty slice goes as the null pointer, as C's callers may pass one.
 fn read<T>(slice: &[T]) -> *const T {
@@ -108,26 +150,6 @@ fn written<T>(slice: &mut [T]) -> *mut T {
     }
 }
 
-pub fn hand_in_tree(state: State, file: &[u8], store: &mut [u8]) -> Answer {
-    // SAFETY: both slices are there for their lengths, and Rust keeps the written one apart from the other.
-    unsafe { declared::nekbrod_hand_in_tree(state, read(file), file.len(), written(store), store.len()) }
-}
-
-pub fn hand_in_sheet(state: State, sheet: &[u8], store: &mut [u8]) -> Answer {
-    // SAFETY: as for a tree.
-    unsafe { declared::nekbrod_hand_in_sheet(state, read(sheet), sheet.len(), written(store), store.len()) }
-}
-
-pub fn drop_both(state: State) -> State {
-    // SAFETY: numbers alone.
-    unsafe { declared::nekbrod_drop_both(state) }
-}
-
-pub fn judge(state: State, tree: &[u8], sheet: &[u8], k: u32, n: u32) -> Standing {
-    // SAFETY: both slices are there for their lengths, and nothing is written.
-    unsafe { declared::nekbrod_judge(state, read(tree), tree.len(), read(sheet), sheet.len(), k, n) }
-}
-
 /// The three work slices that a question is lent.
 pub struct Work<'a> {
     pub lower: &'a mut [u32],
@@ -135,24 +157,46 @@ pub struct Work<'a> {
     pub marks: &'a mut [u8],
 }
 
-pub fn question(state: State, tree: &[u8], sheet: &[u8], k: u32, n: u32, work: Work) -> Reply {
-    let Work { lower, upper, marks } = work;
-    // SAFETY: all slices are there for their lengths, and Rust keeps the written ones apart from all others.
-    unsafe {
-        declared::nekbrod_question(
-            state,
-            read(tree),
-            tree.len(),
-            read(sheet),
-            sheet.len(),
-            k,
-            n,
-            written(lower),
-            lower.len(),
-            written(upper),
-            upper.len(),
-            written(marks),
-            marks.len(),
-        )
+impl Library {
+    pub fn hand_in_tree(&self, state: State, file: &[u8], store: &mut [u8]) -> Answer {
+        // SAFETY: both slices are there for their lengths, and Rust keeps the written one apart from the other.
+        unsafe { (self.hand_in_tree)(state, read(file), file.len(), written(store), store.len()) }
+    }
+
+    pub fn hand_in_sheet(&self, state: State, sheet: &[u8], store: &mut [u8]) -> Answer {
+        // SAFETY: as for a tree.
+        unsafe { (self.hand_in_sheet)(state, read(sheet), sheet.len(), written(store), store.len()) }
+    }
+
+    pub fn drop_both(&self, state: State) -> State {
+        // SAFETY: numbers alone.
+        unsafe { (self.drop_both)(state) }
+    }
+
+    pub fn judge(&self, state: State, tree: &[u8], sheet: &[u8], k: u32, n: u32) -> Standing {
+        // SAFETY: both slices are there for their lengths, and nothing is written.
+        unsafe { (self.judge)(state, read(tree), tree.len(), read(sheet), sheet.len(), k, n) }
+    }
+
+    pub fn question(&self, state: State, tree: &[u8], sheet: &[u8], k: u32, n: u32, work: Work) -> Reply {
+        let Work { lower, upper, marks } = work;
+        // SAFETY: all slices are there for their lengths, and Rust keeps the written ones apart from all others.
+        unsafe {
+            (self.question)(
+                state,
+                read(tree),
+                tree.len(),
+                read(sheet),
+                sheet.len(),
+                k,
+                n,
+                written(lower),
+                lower.len(),
+                written(upper),
+                upper.len(),
+                written(marks),
+                marks.len(),
+            )
+        }
     }
 }

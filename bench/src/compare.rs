@@ -1,5 +1,7 @@
-//! Generated cases through both monitors: lists of calls, and the level printer's inputs as calls.
+//! Generated cases through the C library, the peer and the reference: lists of calls, and the level printer's inputs as
+//! calls.
 
+use crate::capi::{CAPI, PEER};
 use crate::desk::{guarded, Desk, Difference, Tally};
 use reference::calls::{parse_call, Call};
 use reference::cases::limits::LIMITS;
@@ -54,7 +56,7 @@ impl Display for Case {
     }
 }
 
-/// The case and the call in it at which the two monitors differ.
+/// The case and the call in it at which a library differs from the reference.
 #[derive(Debug)]
 pub struct Found {
     pub case: Case,
@@ -69,7 +71,7 @@ pub fn compare(cases: Cases) -> (Tally, Result<(), Found>) {
     let stored = (cases.first == 0).then_some(Case::Stored);
     let generated = (cases.first..cases.first.saturating_add(cases.count)).map(Case::Generated);
     for case in stored.into_iter().chain((0..limits).map(Case::Limit)).chain(generated) {
-        let mut desk = Desk::default();
+        let mut desk = Desk::new(&[CAPI, PEER]);
         let outcome = run_calls(&mut desk, &case.calls(cases.seed));
         tally.add(desk.tally);
         if let Err((call, difference)) = outcome {

@@ -1,7 +1,7 @@
-//! The same calls on the C interface and on the reference, each with memory of its own. After each call the answer, the
-//! state and every byte of both memories must be the same.
+//! The same calls on libraries with the C interface and on the reference, each with memory of its own. After each call
+//! the answer, the state and every byte of each memory must be those of the reference.
 
-use crate::capi::{self, State, Work};
+use crate::capi::{Library, State, Work};
 use crate::expected;
 use reference::calls::{Call, LOWER_FILL, MARK_FILL, STORE_FILL, UPPER_FILL};
 use reference::cut::Level;
@@ -10,7 +10,7 @@ use reference::monitor::{self, Stores};
 use std::fmt::Debug;
 use std::panic::{self, AssertUnwindSafe};
 
-/// What the two monitors differ in.
+/// What a library and the reference differ in.
 #[derive(Debug)]
 pub struct Difference(pub String);
 
@@ -56,13 +56,13 @@ impl Tally {
 
 pub struct Desk {
     state: State,
-    capi: Memory,
+    libraries: Vec<(Library, Memory)>,
     reference: Memory,
     pub tally: Tally,
 }
 
-impl Default for Desk {
-    fn default() -> Desk {
+impl Desk {
+    pub fn new(libraries: &[Library]) -> Desk {
         let memory = Memory {
             tree: Vec::new(),
             sheet: Vec::new(),
@@ -70,11 +70,14 @@ impl Default for Desk {
             upper: vec![UPPER_FILL; ROOM],
             marks: vec![MARK_FILL; ROOM],
         };
-        Desk { state: State::default(), capi: memory.clone(), reference: memory, tally: Tally::default() }
+        Desk {
+            state: State::default(),
+            libraries: libraries.iter().map(|&library| (library, memory.clone())).collect(),
+            reference: memory,
+            tally: Tally::default(),
+        }
     }
-}
 
-impl Desk {
     /// Runs a call of the reference's lists. A question's slices are filled before it, as such lists say.
     pub fn run(&mut self, call: &Call) -> Checked {
         match call {
@@ -96,7 +99,7 @@ impl Desk {
 
     /// Bytes there stay, and new ones are ee.
     pub fn set_stores(&mut self, tree: usize, sheet: usize) {
-        for memory in [&mut self.capi, &mut self.reference] {
+        for memory in self.memories() {
             memory.tree.resize(tree, STORE_FILL);
             memory.sheet.resize(sheet, STORE_FILL);
         }
@@ -104,18 +107,18 @@ impl Desk {
 
     /// The lengths of both stores.
     pub fn stores(&self) -> [usize; 2] {
-        [self.capi.tree.len(), self.capi.sheet.len()]
+        [self.reference.tree.len(), self.reference.sheet.len()]
     }
 
     /// A place outside the store is passed over.
     pub fn poke_tree(&mut self, place: usize, byte: u8) {
-        for memory in [&mut self.capi, &mut self.reference] {
+        for memory in self.memories() {
             memory.tree.get_mut(place).into_iter().for_each(|old| *old = byte);
         }
     }
 
     pub fn poke_sheet(&mut self, place: usize, byte: u8) {
-        for memory in [&mut self.capi, &mut self.reference] {
+        for memory in self.memories() {
             memory.sheet.get_mut(place).into_iter().for_each(|old| *old = byte);
         }
     }
@@ -125,53 +128,52 @@ impl Desk {
     }
 
     pub fn fill_slices(&mut self) {
-        for memory in [&mut self.capi, &mut self.reference] {
+        for memory in self.memories() {
             memory.lower.fill(LOWER_FILL);
             memory.upper.fill(UPPER_FILL);
             memory.marks.fill(MARK_FILL);
         }
     }
 
+    fn memories(&mut self) -> impl Iterator<Item = &mut Memory> {
+        self.libraries.iter_mut().map(|(_, memory)| memory).chain([&mut self.reference])
+    }
+
     pub fn hand_in_tree(&mut self, file: &[u8]) -> Checked {
-        let found = capi::hand_in_tree(self.state, file, &mut self.capi.tree);
-        let wanted = monitor::hand_in_tree(expected::held(self.state), &mut self.reference.tree, file);
-        self.state = found.state;
-        self.count_hand_in(found.refusal.number == 0);
-        self.compare(found, expected::answer(wanted))
+        let state = self.state;
+        let wanted = monitor::hand_in_tree(expected::held(state), &mut self.reference.tree, file);
+        self.count_hand_in(wanted.1.is_ok());
+        self.state = expected::state(wanted.0);
+        self.compare(expected::answer(wanted), |library, memory| library.hand_in_tree(state, file, &mut memory.tree))
     }
 
     pub fn hand_in_sheet(&mut self, sheet: &[u8]) -> Checked {
-        let found = capi::hand_in_sheet(self.state, sheet, &mut self.capi.sheet);
-        let wanted = monitor::hand_in_sheet(expected::held(self.state), &mut self.reference.sheet, sheet);
-        self.state = found.state;
-        self.count_hand_in(found.refusal.number == 0);
-        self.compare(found, expected::answer(wanted))
+        let state = self.state;
+        let wanted = monitor::hand_in_sheet(expected::held(state), &mut self.reference.sheet, sheet);
+        self.count_hand_in(wanted.1.is_ok());
+        self.state = expected::state(wanted.0);
+        self.compare(expected::answer(wanted), |library, memory| library.hand_in_sheet(state, sheet, &mut memory.sheet))
     }
 
     pub fn drop_both(&mut self) -> Checked {
-        let found = capi::drop_both(self.state);
-        let wanted = monitor::drop_both(expected::held(self.state));
-        self.state = found;
-        self.compare(found, expected::state(wanted))
+        let state = self.state;
+        self.state = expected::state(monitor::drop_both(expected::held(state)));
+        self.compare(self.state, |library, _| library.drop_both(state))
     }
 
-    pub fn judge(&mut self, level: Level) -> Checked {
-        let found = capi::judge(self.state, &self.capi.tree, &self.capi.sheet, level.k, level.n);
+    pub fn judge(&mut self, Level { k, n }: Level) -> Checked {
+        let state = self.state;
         let stores = Stores { tree: &self.reference.tree, sheet: &self.reference.sheet };
-        let (_, wanted) = monitor::judge(expected::held(self.state), stores, level);
-        self.compare(found, expected::standing(wanted))
+        let (_, wanted) = monitor::judge(expected::held(state), stores, Level { k, n });
+        self.compare(expected::standing(wanted), |library, memory| {
+            library.judge(state, &memory.tree, &memory.sheet, k, n)
+        })
     }
 
     /// Lends the first places of each slice; there are never more than `ROOM`.
-    pub fn question(&mut self, level: Level, places: [usize; 3]) -> Checked {
+    pub fn question(&mut self, Level { k, n }: Level, places: [usize; 3]) -> Checked {
+        let state = self.state;
         let [lower, upper, marks] = places.map(|places| places.min(ROOM));
-        let memory = &mut self.capi;
-        let work = Work {
-            lower: &mut memory.lower[..lower],
-            upper: &mut memory.upper[..upper],
-            marks: &mut memory.marks[..marks],
-        };
-        let found = capi::question(self.state, &memory.tree, &memory.sheet, level.k, level.n, work);
         let memory = &mut self.reference;
         let stores = Stores { tree: &memory.tree, sheet: &memory.sheet };
         let work = WorkSlices {
@@ -179,11 +181,18 @@ impl Desk {
             upper: &mut memory.upper[..upper],
             marks: &mut memory.marks[..marks],
         };
-        let wanted = monitor::question(expected::held(self.state), stores, level, work);
-        self.state = found.state;
+        let wanted = monitor::question(expected::held(state), stores, Level { k, n }, work);
         self.tally.questions += 1;
-        self.tally.answered += u64::from(found.refusal.number == 0);
-        self.compare(found, expected::reply(wanted))
+        self.tally.answered += u64::from(wanted.1.is_ok());
+        self.state = expected::state(wanted.0);
+        self.compare(expected::reply(wanted), |library, memory| {
+            let work = Work {
+                lower: &mut memory.lower[..lower],
+                upper: &mut memory.upper[..upper],
+                marks: &mut memory.marks[..marks],
+            };
+            library.question(state, &memory.tree, &memory.sheet, k, n, work)
+        })
     }
 
     fn count_hand_in(&mut self, accepted: bool) {
@@ -191,16 +200,29 @@ impl Desk {
         self.tally.accepted += u64::from(accepted);
     }
 
-    fn compare<T: PartialEq + Debug>(&mut self, found: T, wanted: T) -> Checked {
+    /// Each library is asked, and must answer and leave what the reference does.
+    fn compare<T: PartialEq + Debug>(&mut self, wanted: T, ask: impl Fn(&Library, &mut Memory) -> T) -> Checked {
         self.tally.calls += 1;
-        if found != wanted {
-            return Err(Difference(format!("capi answers {found:?}, reference {wanted:?}")));
+        for (library, memory) in &mut self.libraries {
+            let found = ask(library, memory);
+            if found != wanted {
+                return Err(Difference(format!("{} answers {found:?}, reference {wanted:?}", library.name)));
+            }
+            memory
+                .same_as(&self.reference)
+                .map_err(|Difference(left)| Difference(format!("{} {left}", library.name)))?;
         }
-        same_places("tree store", &self.capi.tree, &self.reference.tree)?;
-        same_places("sheet store", &self.capi.sheet, &self.reference.sheet)?;
-        same_places("lower ends", &self.capi.lower, &self.reference.lower)?;
-        same_places("upper ends", &self.capi.upper, &self.reference.upper)?;
-        same_places("marks", &self.capi.marks, &self.reference.marks)
+        Ok(())
+    }
+}
+
+impl Memory {
+    fn same_as(&self, wanted: &Memory) -> Checked {
+        same_places("tree store", &self.tree, &wanted.tree)?;
+        same_places("sheet store", &self.sheet, &wanted.sheet)?;
+        same_places("lower ends", &self.lower, &wanted.lower)?;
+        same_places("upper ends", &self.upper, &wanted.upper)?;
+        same_places("marks", &self.marks, &wanted.marks)
     }
 }
 
@@ -210,7 +232,9 @@ fn same_places<T: PartialEq + Debug>(name: &str, found: &[T], wanted: &[T]) -> C
     }
     let place = found.iter().zip(wanted).position(|(found, wanted)| found != wanted);
     Err(Difference(match place {
-        Some(place) => format!("{name}, place {place}: capi leaves {:?}, reference {:?}", found[place], wanted[place]),
-        None => format!("{name}: capi leaves {} places, reference {}", found.len(), wanted.len()),
+        Some(place) => {
+            format!("leaves {:?} at place {place} of its {name}, reference {:?}", found[place], wanted[place])
+        }
+        None => format!("leaves {} places of its {name}, reference {}", found.len(), wanted.len()),
     }))
 }

@@ -1,4 +1,4 @@
-//! The C interface beside the reference: compared on generated cases, soaked and timed.
+//! The C library beside the reference, compared on generated cases and soaked, and beside the peer, timed.
 //! Each module uses only modules listed before it.
 
 pub mod capi;

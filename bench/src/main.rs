@@ -8,9 +8,10 @@ use std::process::ExitCode;
 use std::time::{Instant, SystemTime, UNIX_EPOCH};
 
 const USAGE: &str = "\
-bench                               questions through capi beside the same in reference/: ratios, and the cost per node
-bench compare [SEED COUNT [FIRST]]  generated cases through both, from case FIRST on; with no FIRST all limits too
-bench soak [SEED CALLS]             calls in a random order through both, each checked
+bench                               questions through capi beside the same to the peer: ratios, and the cost per node
+bench compare [SEED COUNT [FIRST]]  generated cases through capi, the peer and reference/, from case FIRST on; with no
+                                    FIRST all limits too
+bench soak [SEED CALLS]             calls in a random order through capi and reference/, each checked
 ";
 
 const CASES: u64 = 50_000;
@@ -32,7 +33,7 @@ fn main() -> ExitCode {
     }
 }
 
-/// Whether the two monitors agreed, or nothing where the words are no command.
+/// Whether all agreed, or nothing where the words are no command.
 fn run(words: &[&str]) -> Option<bool> {
     match *words {
         [] => Some(print_ratios()),
@@ -92,13 +93,13 @@ fn print_ratios() -> bool {
     let sizes: Vec<Size> =
         ENTRIES.iter().flat_map(|&(entries, _)| NODES.map(|nodes| Size { nodes, entries })).collect();
     let names = ENTRIES.iter().flat_map(|&(_, name)| NODES.map(|_| name));
-    println!("                        a question, ns                     a node, ns");
-    println!("entries       nodes     capi  reference  capi/reference    capi  reference");
+    println!("                       a question, ns              a node, ns");
+    println!("entries       nodes      capi      peer  capi/peer    capi    peer");
     for ((size, name), cost) in sizes.iter().zip(names).zip(costs(&sizes)) {
         let nodes = size.nodes as f64;
-        let Cost { capi, reference, ratio } = cost;
-        print!("{name:12} {:6} {capi:8.0} {reference:10.0} {ratio:15.2}", size.nodes);
-        println!(" {:7.1} {:10.1}", capi / nodes, reference / nodes);
+        let Cost { capi, peer, ratio } = cost;
+        print!("{name:12} {:6} {capi:9.0} {peer:9.0} {ratio:10.2}", size.nodes);
+        println!(" {:7.1} {:7.1}", capi / nodes, peer / nodes);
     }
     true
 }

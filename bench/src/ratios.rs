@@ -1,20 +1,16 @@
-//! Questions through the C interface beside the same questions in the reference, with the same buffers. A round goes
-//! through every tree and both monitors, so that all see the same machine.
+//! Questions through the C library beside the same questions to the peer, with the same buffers. A round goes through
+//! every tree and both libraries, so that all see the same machine.
 
-use crate::capi::{self, State, Work};
-use crate::expected;
+use crate::capi::{Library, Reply, State, Work, CAPI, ONE, PEER};
 use reference::cases::sheets::any_opinions;
 use reference::cases::trees::{count_events, gate};
-use reference::cut::Level;
 use reference::describe::{sheet_bytes, tree_bytes, Entry, Node};
-use reference::evaluation::WorkSlices;
-use reference::monitor::{self, Stores};
 use reference::random::Random;
 use std::hint::black_box;
 use std::time::Instant;
 
 const ROUNDS: usize = 201;
-/// About the time that a monitor has for each tree in a round.
+/// About the time that a library has for each tree in a round.
 const TURN_NANOSECONDS: f64 = 1_000_000.0;
 const LEVELS: u32 = 1_000;
 const EXPERTS: usize = 16;
@@ -35,15 +31,15 @@ pub struct Size {
     pub entries: Entries,
 }
 
-/// Median nanoseconds of a question, and the median over the rounds of the C interface's time by the reference's.
+/// Median nanoseconds of a question, and the median over the rounds of the C library's time by the peer's.
 #[derive(Clone, Copy, Debug)]
 pub struct Cost {
     pub capi: f64,
-    pub reference: f64,
+    pub peer: f64,
     pub ratio: f64,
 }
 
-/// A held pair and the work slices, lent to both monitors, and what each round took.
+/// A held pair and the work slices, lent to both libraries, and what each round took.
 struct Bench {
     state: State,
     tree: Vec<u8>,
@@ -54,7 +50,7 @@ struct Bench {
     /// Questions in a turn.
     questions: u32,
     capi: Vec<f64>,
-    reference: Vec<f64>,
+    peer: Vec<f64>,
 }
 
 /// The cost of a question for each size.
@@ -91,7 +87,7 @@ fn entry(random: &mut Random, entries: Entries, event: usize) -> Entry {
     if !numbers {
         return any_opinions(random, EXPERTS);
     }
-    let mut four = [0; 4].map(|_: u32| random.between(1, capi::ONE as usize - 1) as u32);
+    let mut four = [0; 4].map(|_: u32| random.between(1, ONE as usize - 1) as u32);
     four.sort();
     Entry::Four(four)
 }
@@ -100,7 +96,7 @@ impl Bench {
     fn new(size: Size) -> Bench {
         let mut bench = Bench::holding(size);
         bench.warm_up();
-        bench.questions = ((TURN_NANOSECONDS / bench.time_reference().max(1.0)) as u32).max(4);
+        bench.questions = ((TURN_NANOSECONDS / bench.time(&PEER).max(1.0)) as u32).max(4);
         bench
     }
 
@@ -119,60 +115,41 @@ impl Bench {
             marks: vec![0; size.nodes],
             questions: 64,
             capi: Vec::new(),
-            reference: Vec::new(),
+            peer: Vec::new(),
         }
     }
 
     fn run_round(&mut self, capi_first: bool) {
         for capi in [capi_first, !capi_first] {
-            if capi {
-                let time = self.time_capi();
-                self.capi.push(time);
-            } else {
-                let time = self.time_reference();
-                self.reference.push(time);
-            }
+            let time = self.time(if capi { &CAPI } else { &PEER });
+            if capi { &mut self.capi } else { &mut self.peer }.push(time);
         }
     }
 
     fn cost(self) -> Cost {
-        let ratios = self.capi.iter().zip(&self.reference).map(|(capi, reference)| capi / reference).collect();
-        Cost { capi: median(self.capi), reference: median(self.reference), ratio: median(ratios) }
+        let ratios = self.capi.iter().zip(&self.peer).map(|(capi, peer)| capi / peer).collect();
+        Cost { capi: median(self.capi), peer: median(self.peer), ratio: median(ratios) }
     }
 
-    fn ask_capi(&mut self, k: u32) -> capi::Reply {
+    fn ask(&mut self, library: &Library, k: u32) -> Reply {
         let work = Work { lower: &mut self.lower, upper: &mut self.upper, marks: &mut self.marks };
-        capi::question(self.state, &self.tree, &self.sheet, k, LEVELS, work)
+        library.question(self.state, &self.tree, &self.sheet, k, LEVELS, work)
     }
 
-    fn ask_reference(&mut self, k: u32) -> capi::Reply {
-        let stores = Stores { tree: &self.tree, sheet: &self.sheet };
-        let work = WorkSlices { lower: &mut self.lower, upper: &mut self.upper, marks: &mut self.marks };
-        expected::reply(monitor::question(expected::held(self.state), stores, Level { k, n: LEVELS }, work))
-    }
-
-    /// Both monitors answer, and alike.
+    /// Both libraries answer, and alike.
     fn warm_up(&mut self) {
         for k in 0..=LEVELS / 10 {
-            let found = self.ask_capi(k);
+            let found = self.ask(&CAPI, k);
             assert_eq!(found.refusal.number, 0);
-            assert_eq!(found, self.ask_reference(k));
+            assert_eq!(found, self.ask(&PEER, k));
         }
     }
 
     /// Nanoseconds of a question over a turn, level after level.
-    fn time_capi(&mut self) -> f64 {
+    fn time(&mut self, library: &Library) -> f64 {
         let start = Instant::now();
         for question in 0..self.questions {
-            black_box(self.ask_capi(black_box(question % (LEVELS + 1))));
-        }
-        start.elapsed().as_nanos() as f64 / self.questions as f64
-    }
-
-    fn time_reference(&mut self) -> f64 {
-        let start = Instant::now();
-        for question in 0..self.questions {
-            black_box(self.ask_reference(black_box(question % (LEVELS + 1))));
+            black_box(self.ask(library, black_box(question % (LEVELS + 1))));
         }
         start.elapsed().as_nanos() as f64 / self.questions as f64
     }

@@ -1,7 +1,7 @@
-//! Calls in a random order on one desk: questions, judgements, hand-ins good and bad and drops, with changed store
+//! Calls in a random order on one desk for the C library: questions, judgements, hand-ins good and bad and drops, with changed store
 //! bytes, states and store lengths between them. Most trees are small, so that many calls take little time.
 
-use crate::capi::State;
+use crate::capi::{State, CAPI};
 use crate::desk::{guarded, Checked, Desk, Difference, Tally};
 use reference::cases::sheet_damage::SHEET_DAMAGES;
 use reference::cases::tree_damage::TREE_DAMAGES;
@@ -81,7 +81,7 @@ struct Soak {
 pub fn soak(seed: u64, calls: u64) -> (Tally, Result<(), Difference>) {
     let mut random = Random::for_case(seed, 0);
     let shelf = Shelf::new(&mut random, false);
-    let mut soak = Soak { random, desk: Desk::default(), shelf, chosen: 0 };
+    let mut soak = Soak { random, desk: Desk::new(&[CAPI]), shelf, chosen: 0 };
     let outcome = guarded(|| soak.run(calls));
     (soak.desk.tally, outcome)
 }
