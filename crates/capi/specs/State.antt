@@ -1,4 +1,4 @@
--- The state as C holds it, and the monitor's. Assumes nothing.
+-- The state as C holds it, and the monitor's.
 use Rattle.monitor.specs.declared.state.State.{State as Held}
 use Rattle.capi.specs.declared.state.State.{State}
 

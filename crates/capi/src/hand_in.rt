@@ -9,10 +9,11 @@ use monitor::hand_in::Verdict;
 use monitor::hand_in::drop_both;
 use monitor::hand_in::hand_in_sheet;
 use monitor::hand_in::hand_in_tree;
+use monitor::state::State as Held;
 ghost use mathlib.Core.Path.{_≡_};
 ghost use Rattle.monitor.specs.HandIn.{tree-answer, tree-store, sheet-answer, sheet-store, nothing-held};
 ghost use Rattle.capi.specs.State.{held-of, state-of};
-ghost use Rattle.capi.specs.HandIn.{verdict-refusal, answer-for};
+ghost use Rattle.capi.specs.HandIn.{answer-by, answer-for};
 
 // What a hand-in answers: the state after it, and why the file was refused, if it was.
 #[repr(C)]
@@ -21,13 +22,20 @@ pub struct Answer {
     pub refusal: Refusal,
 }
 
-// The refusal of a verdict.
-fn refusal_of(verdict: Verdict) -> Refusal
-    ensures { λ r. ⌜ r ≡ verdict-refusal verdict ⌝ }
+// The answer for C of the monitor's state and verdict.
+fn answer_by(held: Held, verdict: Verdict) -> Answer
+    ensures { λ r. ⌜ r ≡ answer-by held verdict ⌝ }
 {
+    let state = lengths(held);
     match verdict {
-        Verdict::Accepted => no_refusal(),
-        Verdict::Refused(reason) => refusal_for(reason),
+        Verdict::Accepted => Answer {
+            state,
+            refusal: no_refusal(),
+        },
+        Verdict::Refused(reason) => Answer {
+            state,
+            refusal: refusal_for(reason),
+        },
     }
 }
 
@@ -39,24 +47,18 @@ pub extern "C" fn nekbrod_hand_in_tree(state: State, file: &[u8], store: &mut [u
 {
     let tree_answer = hand_in_tree(held_state(state), file, store);
     let verdict = tree_answer.verdict;
-    Answer {
-        state: lengths(tree_answer.state),
-        refusal: refusal_of(verdict),
-    }
+    answer_by(tree_answer.state, verdict)
 }
 
 // Hands in an opinion sheet: an accepted one is copied to the front of its store and replaces the one held.
 #[no_mangle]
-pub extern "C" fn nekbrod_hand_in_sheet(state: State, sheet: &[u8], store: &mut [u8]) -> Answer
-    ensures { λ r. ⌜ r ≡ answer-for (sheet-answer (held-of state) (now (sheet .entry)) (now (store .entry))) ⌝ }
-    ensures { λ _. ⌜ now (store .exit) ≡ sheet-store (now (sheet .entry)) (now (store .entry)) ⌝ }
+pub extern "C" fn nekbrod_hand_in_sheet(state: State, file: &[u8], store: &mut [u8]) -> Answer
+    ensures { λ r. ⌜ r ≡ answer-for (sheet-answer (held-of state) (now (file .entry)) (now (store .entry))) ⌝ }
+    ensures { λ _. ⌜ now (store .exit) ≡ sheet-store (now (file .entry)) (now (store .entry)) ⌝ }
 {
-    let sheet_answer = hand_in_sheet(held_state(state), sheet, store);
+    let sheet_answer = hand_in_sheet(held_state(state), file, store);
     let verdict = sheet_answer.verdict;
-    Answer {
-        state: lengths(sheet_answer.state),
-        refusal: refusal_of(verdict),
-    }
+    answer_by(sheet_answer.state, verdict)
 }
 
 // Drops both files. The stores' bytes stay.

@@ -24,10 +24,10 @@ fn standing_for(judged: Judged) -> Standing
     ensures { λ r. ⌜ r ≡ standing-for judged ⌝ }
 {
     match judged {
-        Judged::Ready(sizes) => Standing {
+        Judged::Ready(counts) => Standing {
             refusal: no_refusal(),
-            nodes: sizes.nodes,
-            events: sizes.events,
+            nodes: counts.nodes,
+            events: counts.events,
         },
         Judged::Refused(reason) => Standing {
             refusal: refusal_for(reason),
@@ -37,7 +37,7 @@ fn standing_for(judged: Judged) -> Standing
     }
 }
 
-// Whether level k of n can be put to the held pair: refusals 13 and 21 to 24, or the pair's sizes.
+// Whether level k of n can be put to the held pair: refusals 13 and 21 to 24, or the tree's counts.
 #[no_mangle]
 pub extern "C" fn nekbrod_judge(
     state: State,

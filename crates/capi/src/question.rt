@@ -7,14 +7,14 @@ use crate::state::held_state;
 use crate::state::lengths;
 use monitor::question::Outcome;
 use monitor::question::question;
+use monitor::state::State as Held;
+use rounding::unit::UNIT;
 ghost use mathlib.Core.Path.{_≡_};
-ghost use Rattle.monitor.specs.Question.{reply-of, lowers-left, uppers-left, marks-left};
-ghost use Rattle.monitor.specs.Question.{held-tree-bytes, held-sheet-bytes};
+ghost use Rattle.evaluation.specs.Slices.{slices};
+ghost use Rattle.monitor.specs.Standing.{held-tree, held-sheet};
+ghost use Rattle.monitor.specs.Question.{reply-of, slices-left};
 ghost use Rattle.capi.specs.State.{held-of};
 ghost use Rattle.capi.specs.Question.{reply-by, reply-for, Promises-kept};
-
-// The probability 1 in units: a unit is a billionth.
-const ONE: u32 = 1000000000;
 
 // What a question answers: the state, unchanged; why it was refused, if it was; the root's ends in units, each with its
 // mark, and the number of basic events (E). Refused, it has the enclosure that says nothing: 0 to 1, unmarked.
@@ -29,25 +29,26 @@ pub struct Reply {
     pub events: usize,
 }
 
-// The reply of an outcome.
-fn reply_by(state: State, outcome: Outcome) -> Reply
-    ensures { λ r. ⌜ r ≡ reply-by state outcome ⌝ }
+// The reply for C of the monitor's state and outcome.
+fn reply_by(held: Held, outcome: Outcome) -> Reply
+    ensures { λ r. ⌜ r ≡ reply-by held outcome ⌝ }
 {
+    let state = lengths(held);
     match outcome {
         Outcome::Answered(report) => Reply {
             state,
             refusal: no_refusal(),
-            lower: report.lower,
-            upper: report.upper,
-            lower_exact: report.lower_exact,
-            upper_exact: report.upper_exact,
+            lower: report.ends.lower.value,
+            upper: report.ends.upper.value,
+            lower_exact: report.ends.lower.exact,
+            upper_exact: report.ends.upper.exact,
             events: report.events,
         },
         Outcome::Refused(reason) => Reply {
             state,
             refusal: refusal_for(reason),
             lower: 0,
-            upper: ONE,
+            upper: UNIT as u32,
             lower_exact: false,
             upper_exact: false,
             events: 0,
@@ -68,19 +69,13 @@ pub extern "C" fn nekbrod_question(
     marks: &mut [u8],
 ) -> Reply
     ensures { λ r. ⌜ r ≡ reply-for (reply-of (held-of state) (now («tree_store» .entry)) (now («sheet_store» .entry)) k n
-        (now (lower .entry)) (now (upper .entry)) (now (marks .entry))) ⌝ }
-    ensures { λ _. ⌜ now (lower .exit)
-        ≡ lowers-left (held-of state) (now («tree_store» .entry)) (now («sheet_store» .entry)) k n
-        (now (lower .entry)) (now (upper .entry)) (now (marks .entry)) ⌝ }
-    ensures { λ _. ⌜ now (upper .exit)
-        ≡ uppers-left (held-of state) (now («tree_store» .entry)) (now («sheet_store» .entry)) k n
-        (now (lower .entry)) (now (upper .entry)) (now (marks .entry)) ⌝ }
-    ensures { λ _. ⌜ now (marks .exit)
-        ≡ marks-left (held-of state) (now («tree_store» .entry)) (now («sheet_store» .entry)) k n
-        (now (lower .entry)) (now (upper .entry)) (now (marks .entry)) ⌝ }
-    ensures { λ r. ⌜ Promises-kept r (held-tree-bytes (held-of state) (now («tree_store» .entry)))
-        (held-sheet-bytes (held-of state) (now («sheet_store» .entry))) k n
-        (now (lower .exit)) (now (upper .exit)) (now (marks .exit)) ⌝ }
+        (slices (now (lower .entry)) (now (upper .entry)) (now (marks .entry)))) ⌝ }
+    ensures { λ _. ⌜ slices (now (lower .exit)) (now (upper .exit)) (now (marks .exit))
+        ≡ slices-left (held-of state) (now («tree_store» .entry)) (now («sheet_store» .entry)) k n
+        (slices (now (lower .entry)) (now (upper .entry)) (now (marks .entry))) ⌝ }
+    ensures { λ r. ⌜ Promises-kept r (held-tree (held-of state) (now («tree_store» .entry)))
+        (held-sheet (held-of state) (now («sheet_store» .entry))) k n
+        (slices (now (lower .exit)) (now (upper .exit)) (now (marks .exit))) ⌝ }
 {
     let reply = question(
         held_state(state),
@@ -93,5 +88,5 @@ pub extern "C" fn nekbrod_question(
         marks,
     );
     let outcome = reply.outcome;
-    reply_by(lengths(reply.state), outcome)
+    reply_by(reply.state, outcome)
 }

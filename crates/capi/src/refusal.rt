@@ -1,11 +1,10 @@
 // A refusal as C gets it.
-use monitor::refusal::Refusal as Reason;
-use monitor::refusal::refusal_number;
-use monitor::refusal::refusal_place;
+use refusals::refusal::Refusal as Reason;
+use refusals::rule::rule_number;
 ghost use mathlib.Core.Path.{_≡_};
 ghost use Rattle.capi.specs.Refusal.{not-refused, refused-by};
 
-// Document 01's number and place, both 0 where the call was not refused: no refusal has number 0.
+// Document 01's number and place, both 0 where the call was not refused: no rule has number 0.
 #[repr(C)]
 pub struct Refusal {
     pub number: usize,
@@ -22,12 +21,13 @@ pub fn no_refusal() -> Refusal
     }
 }
 
-// The number and the place of the monitor's refusal.
+// The number and the place of a refusal.
 pub fn refusal_for(reason: Reason) -> Refusal
     ensures { λ r. ⌜ r ≡ refused-by reason ⌝ }
 {
+    let rule = reason.rule;
     Refusal {
-        number: refusal_number(reason),
-        place: refusal_place(reason),
+        number: rule_number(rule),
+        place: reason.place,
     }
 }

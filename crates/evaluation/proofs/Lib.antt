@@ -1,11 +1,14 @@
--- What the functions' proofs share, in the order of the argument: a step, a gate's fold input by input, a node by the
--- nodes before it, the part of the tree file that a gate is lent, a slice place by place, all slices node by node, and
--- last demand 3 of every node, which the monitor cites.
--- Assumes nothing.
-pub mod StepLaws
+-- The laws of the evaluation, in the order of the argument: the places of the slices, a node's end by its inputs', the
+-- two phases and what they come to, one turn of each loop, and demand 3 of every node.
+pub mod Places
+pub mod Turns
+pub mod NodeEnds
+pub mod FoldBounds
+pub mod GatesDone
+pub mod Evaluated
+pub mod EventsTurn
 pub mod GateTurn
-pub mod NodeLaws
 pub mod GateParts
-pub mod Written
-pub mod Filling
+pub mod GatesTurn
 pub mod NodePromises
+pub mod Reporting

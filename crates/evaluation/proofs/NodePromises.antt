@@ -1,51 +1,62 @@
--- Demand 3 of what is reported of every node of a pair.
--- Assumes nothing.
-use Prim.Native.Nat.{ℕ, _<_}
+-- What holds of every node of a pair: its reported ends, in the sheet's unit, are at most 1 and keep
+-- demand 3.
+use Prim.Native.Nat.{ℕ, _-_, _*_, _≤_, _<_}
 use mathlib.Core.List.{List}
 use lib.Dec.{lit<}
 use Rattle.theory.specs.Fraction.{Fraction, _≼_, in-units}
 use Rattle.theory.specs.Unreliability.{unreliability}
 use Rattle.theory.specs.Interval.{Inside, Ordered}
-use Rattle.theory.specs.Unit.{billion}
 use Rattle.theory.specs.Rounding.{Direction, down, up}
 use Rattle.theory.specs.Promise.{Promised, exact-end}
 use Rattle.theory.specs.NodeTable.{event-count as table-event-count}
-use Rattle.theory.proofs.LinksBelow.{ranked-by-number}
-use Rattle.theory.proofs.NodePromised.{node-promised, node-contained}
+use Rattle.theory.proofs.CutOrdered.{cut-ordered}
+use Rattle.theory.proofs.NodePromised.{node-at-most, node-promised, node-contained}
 use Rattle.tree_file.specs.Format.{node-count}
-use Rattle.tree_file.specs.Tallies.{events-before}
-use Rattle.tree_file.specs.NodeTable.{table-of, fault-tree}
-use Rattle.tree_file.proofs.NodeTable.{table-numbered, table-links-below, table-linked-once, table-events}
-use Rattle.evaluation.specs.Report.{event-cut, node-end}
+use Rattle.tree_file.specs.Tallies.{event-count}
+use Rattle.tree_file.specs.NodeTable.{table-of, fault-tree, rank}
+use Rattle.tree_file.proofs.NodeTable.{table-ranked, table-numbered, table-linked-once, table-events}
+use Rattle.opinion_sheet.specs.Format.{unit}
+use Rattle.opinion_sheet.specs.EventCut.{event-cut}
+use Rattle.opinion_sheet.proofs.EventRising.{event-rising}
+use Rattle.evaluation.specs.Report.{node-end}
 use Rattle.evaluation.specs.Requirements.{Pair}
-use Rattle.evaluation.proofs.NodeLaws.{cuts-ordered}
 
 module _ (tree sheet : List ℕ) (k n : ℕ) (pair : Pair tree sheet k n) where
-  -- the cuts of the table's events are intervals of probabilities
-  table-cuts-ordered : (e : ℕ) → e < table-event-count (table-of tree) → Ordered (event-cut sheet k n e)
-  table-cuts-ordered e h =
-      cuts-ordered tree sheet k n pair e (rw (pair .same-events, ← table-events tree (pair .tree-good)) h)
+  -- the cuts of the tree's events are intervals of probabilities
+  cuts-ordered : (e : ℕ) → e < table-event-count (table-of tree) → Ordered (event-cut (unit sheet) sheet k n e)
+  cuts-ordered e l =
+      cut-ordered _ k n
+      (event-rising sheet (pair .sheet-well-formed) e
+      (rw (pair .same-events, ← table-events tree (pair .tree-well-formed)) l))
+      (pair .level .n-positive) (pair .level .k-n)
+
+  -- no reported end passes U
+  pub node-in-units : (w : Direction) (i : ℕ) → i < node-count tree → node-end (unit sheet) w tree sheet k n i .value ≤ unit sheet
+  unfolding node-end
+  node-in-units w i l =
+      node-at-most (table-of tree) (rank tree) (table-ranked tree (pair .tree-well-formed))
+      (table-numbered tree (pair .tree-well-formed)) (table-linked-once tree (pair .tree-well-formed))
+      (event-cut (unit sheet) sheet k n) cuts-ordered (unit sheet) (lit< tt) w i l
 
   -- every end keeps its promise for the tree's E
   pub node-kept : (w : Direction) (i : ℕ) → i < node-count tree
-      → Promised billion w (events-before tree (node-count tree)) (node-end w tree sheet k n i)
-      (exact-end w (event-cut sheet k n) (fault-tree tree i))
+      → Promised (unit sheet) w (2 * event-count tree - 1) (node-end (unit sheet) w tree sheet k n i)
+      (exact-end w (event-cut (unit sheet) sheet k n) (fault-tree tree i))
   unfolding node-end
   node-kept w i l =
-      rw (table-events tree (pair .tree-good)) at
-      (node-promised (table-of tree) (λ i. i)
-      (ranked-by-number (table-of tree) (table-links-below tree (pair .tree-good)))
-      (table-numbered tree (pair .tree-good)) (table-linked-once tree (pair .tree-good)) (event-cut sheet k n)
-      table-cuts-ordered billion (lit< tt) w i l)
+      rw (table-events tree (pair .tree-well-formed)) at
+      (node-promised (table-of tree) (rank tree) (table-ranked tree (pair .tree-well-formed))
+      (table-numbered tree (pair .tree-well-formed)) (table-linked-once tree (pair .tree-well-formed))
+      (event-cut (unit sheet) sheet k n) cuts-ordered (unit sheet) (lit< tt) w i l)
 
   -- the ends enclose the unreliability, whatever fractions the events have inside their cuts
   pub node-encloses : (i : ℕ) → i < node-count tree → (p : ℕ → Fraction)
-      → ((e : ℕ) → e < events-before tree (node-count tree) → Inside (event-cut sheet k n e) (p e))
-      → (in-units billion (node-end down tree sheet k n i .value) ≼ unreliability p (fault-tree tree i))
-      × (unreliability p (fault-tree tree i) ≼ in-units billion (node-end up tree sheet k n i .value))
+      → ((e : ℕ) → e < event-count tree → Inside (event-cut (unit sheet) sheet k n e) (p e))
+      → (in-units (unit sheet) (node-end (unit sheet) down tree sheet k n i .value) ≼ unreliability p (fault-tree tree i))
+      × (unreliability p (fault-tree tree i) ≼ in-units (unit sheet) (node-end (unit sheet) up tree sheet k n i .value))
   unfolding node-end
   node-encloses i l p inside =
-      node-contained (table-of tree) (λ i. i)
-      (ranked-by-number (table-of tree) (table-links-below tree (pair .tree-good)))
-      (table-numbered tree (pair .tree-good)) (table-linked-once tree (pair .tree-good)) (event-cut sheet k n)
-      table-cuts-ordered billion (lit< tt) i l p (λ e h. inside e (rw (← table-events tree (pair .tree-good)) h))
+      node-contained (table-of tree) (rank tree) (table-ranked tree (pair .tree-well-formed))
+      (table-numbered tree (pair .tree-well-formed)) (table-linked-once tree (pair .tree-well-formed))
+      (event-cut (unit sheet) sheet k n) cuts-ordered (unit sheet) (lit< tt) i l p
+      (λ e h. inside e (rw (← table-events tree (pair .tree-well-formed)) h))

@@ -1,44 +1,59 @@
--- What `evaluate` and the functions inside this crate ask of their callers. Assumes nothing.
+-- What `evaluate` and the functions inside this crate ask of their callers.
 use Prim.Native.Nat.{ℕ, _≤_, _<_}
 use mathlib.Core.Path.{_≡_}
 use mathlib.Core.List.{List}
 use lib.ListN.{length, getD}
-use Rattle.tree_file.specs.Format.{node-count}
-use Rattle.tree_file.specs.Tallies.{events-before}
+use Rattle.theory.specs.Rounding.{Direction}
+use Rattle.tree_file.specs.Format.{link-count, linked, links-from, node-count}
+use Rattle.tree_file.specs.Tallies.{event-count}
 use Rattle.tree_file.specs.WellFormed.{WellFormed}
-use Rattle.opinion_sheet.specs.Format.{event-count}
-use Rattle.opinion_sheet.specs.Judged.{sheet-fault}
+use Rattle.tree_file.specs.NodeTable.{read-node}
+use Rattle.tree_file.specs.Requirements.{HasLink}
+use Rattle.tree_file.specs.declared.node.Gate.{Gate}
+use Rattle.tree_file.specs.declared.node.Node.the-variants as node
+use Rattle.opinion_sheet.specs.Format.{event-count as entry-count}
+use Rattle.opinion_sheet.specs.WellFormed.{WellFormed as WellFormedSheet}
 use Rattle.opinion_sheet.specs.Cut.{Level}
-use Rattle.opinion_sheet.specs.declared.refusal.FirstFault.the-variants.{Absent}
-use Rattle.evaluation.specs.Report.{lower-value, upper-value, mark-value}
+use Rattle.evaluation.specs.Slices.{Slices, Long, ends, slice}
 
--- An accepted tree and an accepted sheet with as many events, and a level.
+-- A well-formed tree file and a well-formed sheet with as many events, and a level.
 pub record Pair (tree sheet : List ℕ) (k n : ℕ) : Type 0 where
-  pub tree-good : WellFormed tree
-  pub sheet-good : sheet-fault sheet ≡ Absent
-  pub same-events : event-count sheet ≡ events-before tree (node-count tree)
+  pub tree-well-formed : WellFormed tree
+  pub sheet-well-formed : WellFormedSheet sheet
+  pub same-events : entry-count sheet ≡ event-count tree
   pub level : Level k n
 
--- What `evaluate` asks: a pair, the tree's number of nodes (N), and a place for every node in the three work slices.
-pub record Evaluable (tree sheet : List ℕ) (nodes k n : ℕ) (lower upper marks : List ℕ) : Type 0 where
+-- What `evaluate` asks: a pair, the tree's number of nodes (N), and a place for every node in the work slices.
+pub record Evaluable (tree sheet : List ℕ) (nodes k n : ℕ) (s : Slices) : Type 0 where
   pub pair : Pair tree sheet k n
   pub nodes-is : nodes ≡ node-count tree
-  pub lower-long : nodes ≤ length lower
-  pub upper-long : nodes ≤ length upper
-  pub marks-long : nodes ≤ length marks
+  pub long : Long nodes s
 
--- The first i nodes are stored in the slices, which have places for them and more.
-pub record Stored-before (tree sheet : List ℕ) (k n i : ℕ) (lower upper marks : List ℕ) : Type 0 where
-  pub lower-long : i ≤ length lower
-  pub upper-long : i ≤ length upper
-  pub marks-long : i ≤ length marks
-  pub lower-at : (m : ℕ) → m < i → getD lower m 0 ≡ lower-value tree sheet k n m
-  pub upper-at : (m : ℕ) → m < i → getD upper m 0 ≡ upper-value tree sheet k n m
-  pub marks-at : (m : ℕ) → m < i → getD marks m 0 ≡ mark-value tree sheet k n m
+-- The links of a gate lie inside the part that begins with them, and name nodes with a place and an end of at most U.
+pub record Inputs-stored (U : ℕ) (links : List ℕ) (inputs : ℕ) (values marks : List ℕ) : Type 0 where
+  pub has-link : (j : ℕ) → j < inputs → HasLink links j
+  pub has-value : (j : ℕ) → j < inputs → linked links j < length values
+  pub has-mark : (j : ℕ) → j < inputs → linked links j < length marks
+  pub in-units : (j : ℕ) → j < inputs → getD values (linked links j) 0 ≤ U
 
--- What is asked at node i: the pair, and that the nodes before i are stored.
-pub record Node-asked (tree sheet : List ℕ) (nodes i k n : ℕ) (lower upper marks : List ℕ) : Type 0 where
-  pub pair : Pair tree sheet k n
-  pub nodes-is : nodes ≡ node-count tree
-  pub inside : i < nodes
-  pub stored : Stored-before tree sheet k n i lower upper marks
+-- A gate's links lie inside a well-formed tree, and its inputs' ends are stored, lower and upper.
+pub record Gate-stored (U : ℕ) (tree : List ℕ) (g : Gate) (s : Slices) : Type 0 where
+  pub well-formed : WellFormed tree
+  pub first-inside : g .first ≤ link-count tree
+  pub inputs-stored : (w : Direction)
+      → Inputs-stored U (links-from tree (g .first)) (g .inputs) (slice (ends w) s) (s .marks)
+
+-- Node i of a well-formed tree, and, where it is a gate, its inputs' stored ends.
+pub record Gate-asked (U : ℕ) (tree : List ℕ) (i : ℕ) (s : Slices) : Type 0 where
+  pub well-formed : WellFormed tree
+  pub inside : i < node-count tree
+  pub long : Long (node-count tree) s
+  pub in-units : (w : Direction) (g : Gate) → read-node tree i ≡ node.Gate g → (j : ℕ) → j < g .inputs
+      → getD (slice (ends w) s) (linked (links-from tree (g .first)) j) 0 ≤ U
+
+-- A well-formed tree, and the ends of its events stored.
+pub record Events-stored (U : ℕ) (tree : List ℕ) (s : Slices) : Type 0 where
+  pub well-formed : WellFormed tree
+  pub long : Long (node-count tree) s
+  pub in-units : (w : Direction) (i e : ℕ) → i < node-count tree → read-node tree i ≡ node.Event e
+      → getD (slice (ends w) s) i 0 ≤ U

@@ -1,7 +1,7 @@
 // A level of a tree and a sheet that fit each other: every node's ends and marks, written to three lent slices.
 // The main contract is that of `evaluate::evaluate`.
 pub mod evaluate;
+mod events;
 mod gate;
-mod node;
-mod step;
-mod stored;
+mod gates;
+pub mod stored;

@@ -1,37 +1,33 @@
-// The ends of the nodes that are stored in the work slices.
-use crate::step::End;
+// The ends that are stored in the work slices.
+use rounding::direction::Direction;
+use rounding::end::Enclosure;
+use rounding::end::End;
+use rounding::mark::is_marked;
+use rounding::mark::mark_byte;
 ghost use mathlib.Core.Path.{_≡_};
-ghost use Prim.Native.Nat.{_≤_, _<_};
-ghost use lib.ListN.{length, getD};
-ghost use Rattle.theory.specs.Unit.{billion};
-ghost use Rattle.evaluation.specs.Ends.{InUnits, as-code};
-ghost use Rattle.evaluation.specs.Stored.{marked, stored-end};
+ghost use Prim.Native.Nat.{suc, _<_};
+ghost use lib.ListN.{length};
+ghost use Rattle.rounding.specs.Ends.{way, as-code};
+ghost use Rattle.evaluation.specs.Slices.{slices, end-at, Long, put};
 
-// A value as a wider number.
-fn wide(x: u32) -> u64
-    ensures { λ r. ⌜ r ≡ x ⌝ }
+// The stored end of node i in a direction, from the slice of its values and that of the marks.
+pub fn stored_end(direction: Direction, values: &[u32], marks: &[u8], i: usize) -> End
+    requires { ⌜ (i < length (now values)) × (i < length (now marks)) ⌝ }
+    ensures { λ r. ⌜ r ≡ as-code (end-at (way direction) (now (values .entry)) (now (marks .entry)) i) ⌝ }
 {
-    x as u64
+    let value = values[i];
+    let mark = marks[i];
+    let exact = is_marked(direction, mark);
+    End { value, exact }
 }
 
-// Whether a mark byte marks the lower end (1) or the upper end (2) exact.
-pub fn is_marked(upper: bool, mark: u8) -> bool
-    ensures { λ r. ⌜ r ≡ marked upper mark ⌝ }
+// Puts both ends and their marks at place i.
+pub fn put_ends(i: usize, x: Enclosure, lower: &mut [u32], upper: &mut [u32], marks: &mut [u8])
+    requires { ⌜ Long (suc i) (slices (now lower) (now upper) (now marks)) ⌝ }
+    ensures { λ _. ⌜ slices (now (lower .exit)) (now (upper .exit)) (now (marks .exit))
+        ≡ put i x (slices (now (lower .entry)) (now (upper .entry)) (now (marks .entry))) ⌝ }
 {
-    if upper {
-        return mark / 2 % 2 == 1;
-    }
-    mark % 2 == 1
-}
-
-// The stored end of node i, lower or upper.
-pub fn end_at(upper: bool, values: &[u32], marks: &[u8], i: usize) -> End
-    requires { ⌜ (i < length (now values)) × (i < length (now marks)) × (getD (now values) i 0 ≤ billion) ⌝ }
-    ensures { λ r. ⌜ (r ≡ as-code (stored-end upper (now (values .entry)) (now (marks .entry)) i)) × InUnits r ⌝ }
-{
-    let exact = is_marked(upper, marks[i]);
-    End {
-        value: wide(values[i]),
-        exact,
-    }
+    lower[i] = x.lower.value;
+    upper[i] = x.upper.value;
+    marks[i] = mark_byte(x);
 }

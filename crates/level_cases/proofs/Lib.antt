@@ -1,1 +1,1 @@
--- The proofs of this program's functions. Assumes nothing.
+-- The proofs of this program's functions.

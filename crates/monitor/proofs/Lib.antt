@@ -1,8 +1,7 @@
--- What the calls' proofs share, in the order of the argument: a hand-in; the judging of a question, by its parts and
--- then whole; the answer of a pair that is ready; the reply. Assumes nothing.
+-- What the calls' proofs share, in the order of the argument: a hand-in; the judging of what is held, rule by rule;
+-- what a pair that is ready is; the answer and demand 3; the reply.
 pub mod HandIn
-pub mod FirstFault
-pub mod HeldFiles
 pub mod Standing
-pub mod Answering
-pub mod Replying
+pub mod Ready
+pub mod Answer
+pub mod Reply

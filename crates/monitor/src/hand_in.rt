@@ -1,7 +1,8 @@
 // Handing in a tree file or an opinion sheet, and dropping both.
-use crate::refusal::Refusal;
 use crate::state::State;
 use opinion_sheet::judgement::Judgement as SheetJudgement;
+use refusals::refusal::Refusal;
+use refusals::rule::Rule;
 use tree_file::judgement::Judgement as TreeJudgement;
 ghost use mathlib.Core.Path.{_≡_};
 ghost use Rattle.monitor.specs.HandIn.{tree-answer, tree-store, sheet-answer, sheet-store, nothing-held};
@@ -19,24 +20,27 @@ pub struct Answer {
 }
 
 // Hands in a tree file: an accepted one is copied to the front of its store and replaces the one held.
-pub fn hand_in_tree(state: State, file: &[u8], store: &mut [u8]) -> Answer
-    ensures { λ r. ⌜ r ≡ tree-answer state (now (file .entry)) (now (store .entry)) ⌝ }
-    ensures { λ _. ⌜ now (store .exit) ≡ tree-store (now (file .entry)) (now (store .entry)) ⌝ }
+pub fn hand_in_tree(state: State, tree: &[u8], store: &mut [u8]) -> Answer
+    ensures { λ r. ⌜ r ≡ tree-answer state (now (tree .entry)) (now (store .entry)) ⌝ }
+    ensures { λ _. ⌜ now (store .exit) ≡ tree-store (now (tree .entry)) (now (store .entry)) ⌝ }
 {
-    let judgement = tree_file::judge::judge(file);
-    if let TreeJudgement::Refused(fault) = judgement {
+    let judgement = tree_file::judge::judge(tree);
+    if let TreeJudgement::Refused(refusal) = judgement {
         return Answer {
             state,
-            verdict: Verdict::Refused(Refusal::Tree(fault)),
+            verdict: Verdict::Refused(refusal),
         };
     }
-    if store.len() < file.len() {
+    if store.len() < tree.len() {
         return Answer {
             state,
-            verdict: Verdict::Refused(Refusal::ShortStore),
+            verdict: Verdict::Refused(Refusal {
+                rule: Rule::ShortStore,
+                place: 0,
+            }),
         };
     }
-    let tree_len = bytes::copy(file, store);
+    let tree_len = bytes::copy(tree, store);
     Answer {
         state: State {
             tree_len,
@@ -51,17 +55,20 @@ pub fn hand_in_sheet(state: State, sheet: &[u8], store: &mut [u8]) -> Answer
     ensures { λ r. ⌜ r ≡ sheet-answer state (now (sheet .entry)) (now (store .entry)) ⌝ }
     ensures { λ _. ⌜ now (store .exit) ≡ sheet-store (now (sheet .entry)) (now (store .entry)) ⌝ }
 {
-    let judgement = opinion_sheet::judgement::judge(sheet);
-    if let SheetJudgement::Refused(fault) = judgement {
+    let judgement = opinion_sheet::judge::judge(sheet);
+    if let SheetJudgement::Refused(refusal) = judgement {
         return Answer {
             state,
-            verdict: Verdict::Refused(Refusal::Sheet(fault)),
+            verdict: Verdict::Refused(refusal),
         };
     }
     if store.len() < sheet.len() {
         return Answer {
             state,
-            verdict: Verdict::Refused(Refusal::ShortStore),
+            verdict: Verdict::Refused(Refusal {
+                rule: Rule::ShortStore,
+                place: 0,
+            }),
         };
     }
     let sheet_len = bytes::copy(sheet, store);

@@ -1,28 +1,9 @@
-// How a question finds the held pair.
-use crate::refusal::Refusal;
-use opinion_sheet::judgement::Counts as SheetCounts;
-use tree_file::judgement::Counts as TreeCounts;
+// How a call finds what is held.
+use refusals::refusal::Refusal;
+use tree_file::judgement::Counts;
 
-// The sizes of the held pair: nodes (N) and basic events (E).
-pub struct Sizes {
-    pub nodes: usize,
-    pub events: usize,
-}
-
-// Whether a question can be put to the held pair.
+// Whether a call can go on: with the counts of the held tree, or refused.
 pub enum Standing {
-    Ready(Sizes),
+    Ready(Counts),
     Refused(Refusal),
-}
-
-// The held tree file: accepted with its counts, or no longer an accepted file inside its store.
-pub enum HeldTree {
-    Counted(TreeCounts),
-    Changed,
-}
-
-// The held sheet: accepted with its counts, or no longer an accepted sheet inside its store.
-pub enum HeldSheet {
-    Counted(SheetCounts),
-    Changed,
 }

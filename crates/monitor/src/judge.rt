@@ -1,98 +1,132 @@
-// Judges a level and both held files, afresh, before a question is answered: refusals 13 and 21 to 24.
-use crate::held::HeldSheet;
-use crate::held::HeldTree;
-use crate::held::Sizes;
+// Judges a level and the held files, afresh, before a call goes on: refusals 13, 21 to 24, and 25 of the slices.
 use crate::held::Standing;
-use crate::refusal::Refusal;
 use crate::state::State;
 use opinion_sheet::judgement::Counts as SheetCounts;
 use opinion_sheet::judgement::Judgement as SheetJudgement;
-use tree_file::judgement::Counts as TreeCounts;
+use refusals::refusal::FirstFault;
+use refusals::refusal::Refusal;
+use refusals::rule::Rule;
+use tree_file::judgement::Counts;
 use tree_file::judgement::Judgement as TreeJudgement;
 ghost use mathlib.Core.Path.{_≡_};
-ghost use Rattle.monitor.specs.Standing.{level-good, held-tree, held-sheet, fitting-pair, standing-of};
+ghost use Rattle.tree_file.specs.Judged.{fault-of as tree-fault, counts-of as tree-counts};
+ghost use Rattle.opinion_sheet.specs.Judged.{fault-of as sheet-fault, counts-of as sheet-counts};
+ghost use Rattle.opinion_sheet.specs.Judged.{judged-by};
+ghost use Rattle.evaluation.specs.Slices.{slices};
+ghost use Rattle.monitor.specs.Standing.{changed, fitting, held, in-range, short-slice, standing-by};
+ghost use Rattle.monitor.specs.Standing.{tree-standing, pair-standing, standing-of};
+
+// A refusal that names no place.
+fn refused(rule: Rule) -> Standing
+    ensures { λ r. ⌜ r ≡ Standing.Refused (record { rule = rule; place = 0 }) ⌝ }
+{
+    Standing::Refused(Refusal { rule, place: 0 })
+}
 
 // Whether level k of n is in range.
-fn level_good(k: u32, n: u32) -> bool
-    ensures { λ r. ⌜ r ≡ level-good k n ⌝ }
+fn level_in_range(k: u32, n: u32) -> bool
+    ensures { λ r. ⌜ r ≡ in-range k n ⌝ }
 {
-    if n < 1 {
-        return false;
-    }
-    if 1000 < n {
-        return false;
-    }
-    k <= n
+    (1 <= n) & (n <= 1000) & (k <= n)
 }
 
 // The held tree file of that length, judged as its bytes stand.
-fn held_tree(len: usize, store: &[u8]) -> HeldTree
-    ensures { λ r. ⌜ r ≡ held-tree len (now (store .entry)) ⌝ }
+fn held_tree(len: usize, store: &[u8]) -> Standing
+    ensures { λ r. ⌜ r ≡ standing-by (changed 0 tree-fault len (now (store .entry)))
+        (tree-counts (held len (now (store .entry)))) ⌝ }
 {
     if store.len() < len {
-        return HeldTree::Changed;
+        return refused(Rule::Changed);
     }
     let judgement = tree_file::judge::judge(&store[..len]);
     let TreeJudgement::Accepted(counts) = judgement else {
-        return HeldTree::Changed;
+        return refused(Rule::Changed);
     };
-    HeldTree::Counted(counts)
+    Standing::Ready(counts)
 }
 
 // The held sheet of that length, judged as its bytes stand.
-fn held_sheet(len: usize, store: &[u8]) -> HeldSheet
-    ensures { λ r. ⌜ r ≡ held-sheet len (now (store .entry)) ⌝ }
+fn held_sheet(len: usize, store: &[u8]) -> SheetJudgement
+    ensures { λ r. ⌜ r ≡ judged-by (changed 1 sheet-fault len (now (store .entry)))
+        (sheet-counts (held len (now (store .entry)))) ⌝ }
 {
-    if store.len() < len {
-        return HeldSheet::Changed;
-    }
-    let judgement = opinion_sheet::judgement::judge(&store[..len]);
-    let SheetJudgement::Accepted(counts) = judgement else {
-        return HeldSheet::Changed;
+    let refusal = Refusal {
+        rule: Rule::Changed,
+        place: 1,
     };
-    HeldSheet::Counted(counts)
+    if store.len() < len {
+        return SheetJudgement::Refused(refusal);
+    }
+    let judgement = opinion_sheet::judge::judge(&store[..len]);
+    let SheetJudgement::Accepted(counts) = judgement else {
+        return SheetJudgement::Refused(refusal);
+    };
+    SheetJudgement::Accepted(counts)
 }
 
 // Whether the sheet is for the tree and has an entry for each of its basic events.
-fn fitting_pair(tree: TreeCounts, sheet: SheetCounts) -> bool
-    ensures { λ r. ⌜ r ≡ fitting-pair tree sheet ⌝ }
+fn fits(tree: Counts, sheet: SheetCounts) -> bool
+    ensures { λ r. ⌜ r ≡ fitting tree sheet ⌝ }
 {
-    let number = sheet.tree as usize;
-    let events = sheet.events as usize;
-    if tree.number != number {
-        return false;
-    }
-    events == tree.events
+    (tree.number == sheet.number) & (sheet.events == tree.events)
 }
 
-// Whether level k of n can be put to the held pair: the first refusal in document 01's order, or the pair's sizes.
+// Whether a call can go on with the held tree alone: refusals 21 and 23.
+pub fn judge_tree(state: State, tree_store: &[u8]) -> Standing
+    ensures { λ r. ⌜ r ≡ tree-standing state (now («tree_store» .entry)) ⌝ }
+{
+    if 1 <= state.tree_len {
+        return held_tree(state.tree_len, tree_store);
+    }
+    refused(Rule::NoTree)
+}
+
+// Whether a call can go on with the held pair: refusals 21 to 24.
+pub fn judge_pair(state: State, tree_store: &[u8], sheet_store: &[u8]) -> Standing
+    ensures { λ r. ⌜ r ≡ pair-standing state (now («tree_store» .entry)) (now («sheet_store» .entry)) ⌝ }
+{
+    if state.tree_len == 0 {
+        return refused(Rule::NoTree);
+    }
+    if state.sheet_len == 0 {
+        return refused(Rule::NoSheet);
+    }
+    let tree = held_tree(state.tree_len, tree_store);
+    let Standing::Ready(counts) = tree else {
+        return tree;
+    };
+    let sheet = held_sheet(state.sheet_len, sheet_store);
+    match sheet {
+        SheetJudgement::Refused(refusal) => Standing::Refused(refusal),
+        SheetJudgement::Accepted(sheet_counts) => {
+            if !fits(counts, sheet_counts) {
+                return refused(Rule::OtherTree);
+            }
+            Standing::Ready(counts)
+        }
+    }
+}
+
+// Whether level k of n can be put to the held pair: 13, then the pair's own refusals.
 pub fn judge(state: State, tree_store: &[u8], sheet_store: &[u8], k: u32, n: u32) -> Standing
     ensures { λ r. ⌜ r ≡ standing-of state (now («tree_store» .entry)) (now («sheet_store» .entry)) k n ⌝ }
 {
-    let in_range = level_good(k, n);
-    if !in_range {
-        return Standing::Refused(Refusal::Level);
+    if !level_in_range(k, n) {
+        return refused(Rule::WrongLevel);
     }
-    if state.tree_len == 0 {
-        return Standing::Refused(Refusal::NoTree);
+    judge_pair(state, tree_store, sheet_store)
+}
+
+// Whether each work slice has a place for each of so many nodes: refusal 25.
+pub fn judge_slices(nodes: usize, lower: &[u32], upper: &[u32], marks: &[u8]) -> FirstFault
+    ensures { λ r. ⌜ r ≡ short-slice nodes
+        (slices (now (lower .entry)) (now (upper .entry)) (now (marks .entry))) ⌝ }
+{
+    if (nodes <= lower.len()) & (nodes <= upper.len()) & (nodes <= marks.len()) {
+        return FirstFault::Absent;
     }
-    if state.sheet_len == 0 {
-        return Standing::Refused(Refusal::NoSheet);
-    }
-    let tree = held_tree(state.tree_len, tree_store);
-    let HeldTree::Counted(tree_counts) = tree else {
-        return Standing::Refused(Refusal::TreeChanged);
-    };
-    let sheet = held_sheet(state.sheet_len, sheet_store);
-    let HeldSheet::Counted(sheet_counts) = sheet else {
-        return Standing::Refused(Refusal::SheetChanged);
-    };
-    let fitting = fitting_pair(tree_counts, sheet_counts);
-    if !fitting {
-        return Standing::Refused(Refusal::OtherTree);
-    }
-    Standing::Ready(Sizes {
-        nodes: tree_counts.nodes,
-        events: tree_counts.events,
+    FirstFault::Found(Refusal {
+        rule: Rule::ShortSlice,
+        place: 0,
     })
 }

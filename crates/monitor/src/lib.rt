@@ -1,7 +1,6 @@
-// The monitor: what it holds, the calls on it, and the refusals' numbers and places.
+// The monitor: what it holds, and the calls on it.
 pub mod hand_in;
 pub mod held;
 pub mod judge;
 pub mod question;
-pub mod refusal;
 pub mod state;

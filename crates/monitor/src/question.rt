@@ -1,22 +1,28 @@
 // Questioning a level: every node's ends and marks go to the lent work slices, and the root's are answered.
-use crate::held::Sizes;
 use crate::held::Standing;
 use crate::judge::judge;
-use crate::refusal::Refusal;
+use crate::judge::judge_slices;
 use crate::state::State;
 use evaluation::evaluate::evaluate;
+use evaluation::stored::stored_end;
+use refusals::refusal::FirstFault;
+use refusals::refusal::Refusal;
+use rounding::direction::Direction;
+use rounding::end::Enclosure;
+use tree_file::judgement::Counts;
 ghost use mathlib.Core.Path.{_≡_};
-ghost use Rattle.monitor.specs.Question.{Answerable, report-of, reply-of, lowers-left, uppers-left, marks-left};
-ghost use Rattle.monitor.specs.Question.{held-tree-bytes, held-sheet-bytes};
+ghost use Rattle.theory.specs.Unit.{billion};
+ghost use Rattle.tree_file.specs.Tallies.{event-count};
+ghost use Rattle.evaluation.specs.Slices.{slices};
+ghost use Rattle.evaluation.specs.Report.{slices-after};
+ghost use Rattle.evaluation.specs.Requirements.{Evaluable};
+ghost use Rattle.monitor.specs.Standing.{held-tree, held-sheet};
+ghost use Rattle.monitor.specs.Question.{report-of, reply-of, slices-left};
 ghost use Rattle.monitor.specs.Promise.{Promises-kept};
-ghost use Rattle.evaluation.specs.Report.{lowers-after, uppers-after, marks-after};
 
 // The root's ends in units, each with its mark, and the number of basic events (E).
 pub struct Report {
-    pub lower: u32,
-    pub lower_exact: bool,
-    pub upper: u32,
-    pub upper_exact: bool,
+    pub ends: Enclosure,
     pub events: usize,
 }
 
@@ -36,32 +42,31 @@ pub struct Reply {
 fn answered(
     tree: &[u8],
     sheet: &[u8],
-    sizes: Sizes,
+    counts: Counts,
     k: u32,
     n: u32,
     lower: &mut [u32],
     upper: &mut [u32],
     marks: &mut [u8],
 ) -> Report
-    requires { ⌜ Answerable (now tree) (now sheet) sizes k n (now lower) (now upper) (now marks) ⌝ }
-    ensures { λ r. ⌜ r ≡ report-of (now (tree .entry)) (now (sheet .entry)) k n ⌝ }
-    ensures { λ _. ⌜ now (lower .exit)
-        ≡ lowers-after (now (tree .entry)) (now (sheet .entry)) k n (now (lower .entry)) ⌝ }
-    ensures { λ _. ⌜ now (upper .exit)
-        ≡ uppers-after (now (tree .entry)) (now (sheet .entry)) k n (now (upper .entry)) ⌝ }
-    ensures { λ _. ⌜ now (marks .exit)
-        ≡ marks-after (now (tree .entry)) (now (sheet .entry)) k n (now (marks .entry)) ⌝ }
+    requires { ⌜ Evaluable (now tree) (now sheet) (counts .nodes) k n (slices (now lower) (now upper) (now marks)) ⌝ }
+    requires { ⌜ counts .events ≡ event-count (now tree) ⌝ }
+    ensures { λ r. ⌜ r ≡ report-of billion (now (tree .entry)) (now (sheet .entry)) k n ⌝ }
+    ensures { λ _. ⌜ slices (now (lower .exit)) (now (upper .exit)) (now (marks .exit))
+        ≡ slices-after billion (now (tree .entry)) (now (sheet .entry)) k n
+        (slices (now (lower .entry)) (now (upper .entry)) (now (marks .entry))) ⌝ }
 {
-    let nodes = sizes.nodes;
-    let events = sizes.events;
+    let nodes = counts.nodes;
+    let events = counts.events;
     evaluate(tree, sheet, nodes, k, n, lower, upper, marks);
     let root = nodes - 1;
-    let mark = marks[root];
+    let low = stored_end(Direction::Down, lower, marks, root);
+    let high = stored_end(Direction::Up, upper, marks, root);
     Report {
-        lower: lower[root],
-        lower_exact: mark % 2 == 1,
-        upper: upper[root],
-        upper_exact: mark / 2 % 2 == 1,
+        ends: Enclosure {
+            lower: low,
+            upper: high,
+        },
         events,
     }
 }
@@ -78,16 +83,13 @@ pub fn question(
     marks: &mut [u8],
 ) -> Reply
     ensures { λ r. ⌜ r ≡ reply-of state (now («tree_store» .entry)) (now («sheet_store» .entry)) k n
-        (now (lower .entry)) (now (upper .entry)) (now (marks .entry)) ⌝ }
-    ensures { λ _. ⌜ now (lower .exit) ≡ lowers-left state (now («tree_store» .entry)) (now («sheet_store» .entry)) k n
-        (now (lower .entry)) (now (upper .entry)) (now (marks .entry)) ⌝ }
-    ensures { λ _. ⌜ now (upper .exit) ≡ uppers-left state (now («tree_store» .entry)) (now («sheet_store» .entry)) k n
-        (now (lower .entry)) (now (upper .entry)) (now (marks .entry)) ⌝ }
-    ensures { λ _. ⌜ now (marks .exit) ≡ marks-left state (now («tree_store» .entry)) (now («sheet_store» .entry)) k n
-        (now (lower .entry)) (now (upper .entry)) (now (marks .entry)) ⌝ }
-    ensures { λ r. ⌜ Promises-kept (r .outcome) (held-tree-bytes state (now («tree_store» .entry)))
-        (held-sheet-bytes state (now («sheet_store» .entry))) k n
-        (now (lower .exit)) (now (upper .exit)) (now (marks .exit)) ⌝ }
+        (slices (now (lower .entry)) (now (upper .entry)) (now (marks .entry))) ⌝ }
+    ensures { λ _. ⌜ slices (now (lower .exit)) (now (upper .exit)) (now (marks .exit))
+        ≡ slices-left state (now («tree_store» .entry)) (now («sheet_store» .entry)) k n
+        (slices (now (lower .entry)) (now (upper .entry)) (now (marks .entry))) ⌝ }
+    ensures { λ r. ⌜ Promises-kept billion (r .outcome) (held-tree state (now («tree_store» .entry)))
+        (held-sheet state (now («sheet_store» .entry))) k n
+        (slices (now (lower .exit)) (now (upper .exit)) (now (marks .exit))) ⌝ }
 {
     let standing = judge(state, tree_store, sheet_store, k, n);
     match standing {
@@ -95,12 +97,12 @@ pub fn question(
             state,
             outcome: Outcome::Refused(refusal),
         },
-        Standing::Ready(sizes) => {
-            let nodes = sizes.nodes;
-            if (lower.len() < nodes) | (upper.len() < nodes) | (marks.len() < nodes) {
+        Standing::Ready(counts) => {
+            let short = judge_slices(counts.nodes, lower, upper, marks);
+            if let FirstFault::Found(refusal) = short {
                 return Reply {
                     state,
-                    outcome: Outcome::Refused(Refusal::ShortSlice),
+                    outcome: Outcome::Refused(refusal),
                 };
             }
             let tree_len = state.tree_len;
@@ -108,7 +110,7 @@ pub fn question(
             let report = answered(
                 &tree_store[..tree_len],
                 &sheet_store[..sheet_len],
-                sizes,
+                counts,
                 k,
                 n,
                 lower,

@@ -1,91 +1,64 @@
--- What the crates above may take from an accepted sheet: counts, length, and four numbers in order for each event.
--- Assumes nothing.
-use Prim.Native.Nat.{ℕ, _+_, _≤_, _<_}
-use mathlib.Core.Path.{_≡_, refl, subst}
+-- A file is accepted exactly where it is well-formed, and the fault behind a judgement.
+use Prim.Native.Nat.{ℕ}
+use mathlib.Core.Path.{_≡_, refl}
 use mathlib.Core.List.{List}
-use lib.ListN.{length}
 use native.Mathlib.Omega.{arith}
-use Rattle.opinion_sheet.specs.Format.{event-count, entry-at, required-length}
-use Rattle.opinion_sheet.specs.Entries.{entry-of}
-use Rattle.opinion_sheet.specs.Judged.{sheet-fault, counts-of, judgement-of, judged}
-use Rattle.opinion_sheet.specs.Opinion.{opinions-among}
-use Rattle.theory.specs.Trapezoid.{Rising}
-use Rattle.opinion_sheet.specs.EventCut.{numbers-trapezoid, entry-trapezoid, event-trapezoid}
-use Rattle.opinion_sheet.specs.declared.refusal.FirstFault.{FirstFault}
-use Rattle.opinion_sheet.specs.declared.refusal.FirstFault.the-variants.{Absent, Found}
-use Rattle.opinion_sheet.specs.declared.entry.Numbers.{Numbers}
-use Rattle.opinion_sheet.specs.declared.entry.Entry.{Entry}
-use Rattle.opinion_sheet.specs.declared.entry.Entry.the-variants as entry
-use Rattle.opinion_sheet.specs.declared.mean.Sums.{Sums}
+use Rattle.refusals.specs.declared.refusal.Refusal.{Refusal}
+use Rattle.refusals.specs.declared.refusal.FirstFault.{FirstFault}
+use Rattle.refusals.specs.declared.refusal.FirstFault.the-variants.{Found, Absent}
+use Rattle.refusals.proofs.FirstFault.{first-of-absent, among-each, among-absent}
+use Rattle.opinion_sheet.specs.Format.{event-count, unit}
+use Rattle.opinion_sheet.specs.EntryRules.{entry-fault}
+use Rattle.opinion_sheet.specs.Judged.{counts-of, judged-by, rules, fault-of, judged}
+use Rattle.opinion_sheet.specs.WellFormed.{WellFormed}
 use Rattle.opinion_sheet.specs.declared.judgement.Counts.{Counts}
-use Rattle.opinion_sheet.specs.declared.judgement.Judgement.the-variants.{Accepted}
-use Rattle.opinion_sheet.proofs.Rules.{RisingNumbers, numbers-rule}
-use Rattle.theory.proofs.MeanRising.{mean-rising}
-use Rattle.opinion_sheet.proofs.MeanOfOpinions.{sums-are}
-use Rattle.opinion_sheet.proofs.CleanSheet.{CleanSheet, sheet-clean, entry-inside, entry-numbers, entry-opinions}
-use Rattle.opinion_sheet.proofs.CleanSheet.{CleanOpinions, opinions-clean}
+use Rattle.opinion_sheet.specs.declared.judgement.Judgement.the-variants.{Accepted, Refused}
+use Rattle.opinion_sheet.proofs.HeaderLaws.{header-well-formed, header-absent}
+use Rattle.opinion_sheet.proofs.ScoreLaws.{scores-well-formed, scores-absent}
+use Rattle.opinion_sheet.proofs.EntryLaws.{entry-well-formed, entry-absent}
 
-numbers-ordered : (x : Numbers) → RisingNumbers x → Rising (numbers-trapezoid x)
-numbers-ordered x rising =
-    record {
-      a-b = rising .a-b;
-      b-c = rising .b-c;
-      c-d = rising .c-d;
-      d-den = rising .d-unit;
-      positive = omega arith;
-    }
-
--- The four numbers of an event are in order.
-event-ordered : (s : List ℕ) → CleanSheet s → (e : ℕ) → e < event-count s → Rising (event-trapezoid s e)
-event-ordered s clean e h = go (entry-of s e) refl
-  where
-    go : (read : Entry) → entry-of s e ≡ read → Rising (entry-trapezoid s read)
-    go (entry.Numbers x) k = numbers-ordered x (numbers-rule x (entry-numbers s e (clean .entries e h) k))
-    go (entry.Opinions terms) k =
-        let parts = entry-opinions s e (clean .entries e h) k in
-        let sound = subst (CleanOpinions s) (parts .1) (opinions-clean s (entry-at e) clean (parts .0)) in
-        let same = sums-are s terms 16 (sound .terms-bounded) in
-        mean-rising (opinions-among s terms 16) (subst (λ (sums : Sums). 1 ≤ sums .scores) same (sound .positive))
-
--- An accepted sheet, by its counts.
-pub record AcceptedSheet (s : List ℕ) (counts : Counts) : Type 0 where
-  pub no-fault : sheet-fault s ≡ Absent
-  pub counts-read : counts ≡ counts-of s
-  pub length-fixed : length s ≡ required-length (counts .events)
-  pub events-positive : 1 ≤ counts .events
-  pub events-bounded : counts .events ≤ 1024
-  pub experts-bounded : counts .experts ≤ 16
-  pub entry-inside : (e : ℕ) → e < counts .events → entry-at e + 17 ≤ length s
-  pub event-ordered : (e : ℕ) → e < counts .events → Rising (event-trapezoid s e)
-
-clean-accepted : (s : List ℕ) → sheet-fault s ≡ Absent → AcceptedSheet s (counts-of s)
-clean-accepted s h =
-    let clean = sheet-clean s h in
-    record {
-      no-fault = h;
-      counts-read = refl;
-      length-fixed = clean .header .length-fixed;
-      events-positive = clean .header .events-positive;
-      events-bounded = clean .header .events-bounded;
-      experts-bounded = clean .header .experts-bounded;
-      entry-inside = entry-inside s (clean .header);
-      event-ordered = event-ordered s clean;
-    }
-
--- A judgement that accepts comes of no fault, with the header's counts.
-accepting : (fault : FirstFault) (read counts : Counts) → judgement-of fault read ≡ Accepted counts
-    → (fault ≡ Absent) × (read ≡ counts)
-accepting Absent read counts h = (refl, cc)
-accepting (Found refusal) read counts h =
+-- A judgement that refuses comes of that fault.
+pub refused-found : (fault : FirstFault) (read : Counts) (r : Refusal) → judged-by fault read ≡ Refused r
+    → fault ≡ Found r
+refused-found (Found q) read r h = cc
+refused-found Absent read r h =
     let z : _≡_ {A = ℕ} 0 1 = cc in
     absurd (omega arith)
 
--- Every law of an accepted sheet.
-pub accepted : (s : List ℕ) (counts : Counts) → judged s ≡ Accepted counts → AcceptedSheet s counts
-accepted s counts h =
-    let parts = accepting (sheet-fault s) (counts-of s) counts h in
-    subst (AcceptedSheet s) (parts .1) (clean-accepted s (parts .0))
+-- A judgement that accepts comes of no fault, with the counts.
+pub accepted-absent : (fault : FirstFault) (read counts : Counts) → judged-by fault read ≡ Accepted counts
+    → (fault ≡ Absent) × (counts ≡ read)
+accepted-absent Absent read counts h = (refl, cc)
+accepted-absent (Found r) read counts h =
+    let z : _≡_ {A = ℕ} 0 1 = cc in
+    absurd (omega arith)
 
--- The four numbers of each event of a sheet without a fault rise.
-pub event-rising : (s : List ℕ) → sheet-fault s ≡ Absent → (e : ℕ) → e < event-count s → Rising (event-trapezoid s e)
-event-rising s h = event-ordered s (sheet-clean s h)
+module _ (file : List ℕ) where
+  absent-well-formed : fault-of file ≡ Absent → WellFormed file
+  unfolding fault-of
+  absent-well-formed h =
+      let parts = first-of-absent (rules file) h in
+      let header = header-well-formed file (parts .0) in
+      record {
+        header = header;
+        scores = scores-well-formed file (header .experts-most) (parts .1 .0);
+        entry = λ e l.
+            entry-well-formed file (unit file) (header .experts-most) e
+            (among-each (entry-fault (unit file) file) (event-count file) (parts .1 .1 .0) e l);
+      }
+
+  pub accepted-well-formed : (counts : Counts) → judged file ≡ Accepted counts → WellFormed file
+  accepted-well-formed counts h = absent-well-formed (accepted-absent (fault-of file) (counts-of file) counts h .0)
+
+  pub accepted-counts : (counts : Counts) → judged file ≡ Accepted counts → counts ≡ counts-of file
+  accepted-counts counts h = accepted-absent (fault-of file) (counts-of file) counts h .1
+
+  pub well-formed-accepted : WellFormed file → judged file ≡ Accepted (counts-of file)
+  unfolding fault-of
+  well-formed-accepted w =
+      rw (
+        header-absent file (w .header),
+        scores-absent file (w .scores),
+        among-absent (entry-fault (unit file) file) (event-count file)
+            (λ e l. entry-absent file (unit file) (w .header .experts-most) e (w .entry e l)),
+      )

@@ -1,15 +1,10 @@
--- The laws of this crate, in the order of the argument.
-pub mod FirstFault
-pub mod Spoken
-pub mod GoodHeader
-pub mod Judging
-pub mod Rules
-pub mod TermOrder
-pub mod MeanOrder
+-- The laws of this crate, in the order of the argument: each part judged, what acceptance means, the mean, the cut.
+pub mod HeaderLaws
+pub mod ScoreLaws
+pub mod TermLaws
+pub mod EntryLaws
+pub mod Accepted
 pub mod MeanOfOpinions
-pub mod CleanSheet
-pub mod CutEnds
+pub mod EventRising
 pub mod CutBounds
 pub mod CutScaled
-pub mod Accepted
-pub mod Cases

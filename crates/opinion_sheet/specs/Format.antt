@@ -1,82 +1,105 @@
--- The format of a sheet: where each field stands, how wide it is, how long the whole must be.
--- Numbers are unsigned, low byte first. Assumes nothing.
+-- The opinion sheet's format: where each field stands, how wide it is, and what its limits are.
 use Prim.Native.Nat.{ℕ, _+_, _*_}
+use mathlib.Core.Bool.{Bool, _&&_}
 use mathlib.Core.List.{List}
-use lib.ListN.{getD}
+use lib.Dec.{eqb}
+use Rattle.theory.specs.Unit.{billion}
+use Rattle.fields.specs.Fields.{byte, field16}
 
--- The byte at a place, 0 past the end.
-abbrev pub byte-at : List ℕ → ℕ → ℕ
-byte-at s at = getD s at 0
-
--- The 16-bit number at a place.
-abbrev pub number16 : List ℕ → ℕ → ℕ
-number16 s at = byte-at s at + 256 * byte-at s (at + 1)
-
--- The 32-bit number at a place.
-abbrev pub number32 : List ℕ → ℕ → ℕ
-number32 s at = number16 s at + 65536 * number16 s (at + 2)
-
--- The header's letters FTS.
-abbrev pub letter-f : ℕ
-letter-f = 70
-
-abbrev pub letter-t : ℕ
-letter-t = 84
-
-abbrev pub letter-s : ℕ
-letter-s = 83
-
--- The limits of the counts: events, and experts, each of whom has a score byte and a term byte.
-abbrev pub max-events : ℕ
-max-events = 1024
-
-abbrev pub expert-places : ℕ
-expert-places = 16
-
--- The header's length.
+-- The length in bytes of the header.
 abbrev pub header-length : ℕ
 header-length = 26
 
--- An entry's length: a kind byte and sixteen bytes more.
-abbrev pub entry-length : ℕ
-entry-length = 17
+-- Where the header's fields stand: the three letters;
+abbrev pub letters-place : ℕ
+letters-place = 0
 
--- Where each field of the header stands: three letters from byte 0, three 16-bit fields, a byte, sixteen bytes.
+-- three 16-bit fields: the version,
 abbrev pub version-place : ℕ
 version-place = 3
 
-abbrev pub tree-place : ℕ
-tree-place = 5
+-- the number of the tree and the number of events;
+abbrev pub number-place : ℕ
+number-place = 5
 
 abbrev pub events-place : ℕ
 events-place = 7
 
+-- the byte of the experts, and a score byte for each possible one.
 abbrev pub experts-place : ℕ
 experts-place = 9
 
 abbrev pub scores-place : ℕ
 scores-place = 10
 
+-- The version that is read; the most events; the most experts, each of whom has a score byte and a term byte.
+abbrev pub version-read : ℕ
+version-read = 1
+
+abbrev pub max-events : ℕ
+max-events = 1024
+
+abbrev pub expert-places : ℕ
+expert-places = 16
+
+-- The highest score and the highest term code.
+abbrev pub max-score : ℕ
+max-score = 100
+
+abbrev pub max-term : ℕ
+max-term = 7
+
+-- The kinds of an entry: four numbers, opinions.
+abbrev pub numbers-kind : ℕ
+numbers-kind = 0
+
+abbrev pub opinions-kind : ℕ
+opinions-kind = 1
+
+-- The file begins with the letters `FTS`.
+abbrev pub has-letters : List ℕ → Bool
+has-letters file = eqb (byte file 0) 70 && eqb (byte file 1) 84 && eqb (byte file 2) 83
+
+abbrev pub version : List ℕ → ℕ
+version file = field16 file version-place
+
 -- The number of the tree that the sheet is for.
 abbrev pub tree-number : List ℕ → ℕ
-tree-number s = number16 s tree-place
+tree-number file = field16 file number-place
 
 -- E, the number of basic events, one entry for each.
 abbrev pub event-count : List ℕ → ℕ
-event-count s = number16 s events-place
+event-count file = field16 file events-place
 
--- The number of experts.
 abbrev pub expert-count : List ℕ → ℕ
-expert-count s = byte-at s experts-place
+expert-count file = byte file experts-place
 
 -- The score of an expert.
-abbrev pub score-of : List ℕ → ℕ → ℕ
-score-of s expert = byte-at s (scores-place + expert)
+abbrev pub score : List ℕ → ℕ → ℕ
+score file expert = byte file (scores-place + expert)
 
--- Where the entry of an event stands.
-abbrev pub entry-at : ℕ → ℕ
-entry-at e = header-length + entry-length * e
+-- The length of an entry, a kind byte and sixteen bytes more; where that of an event stands, after the header.
+abbrev pub entry-length : List ℕ → ℕ
+entry-length file = 17
 
--- The length that a number of events requires.
-abbrev pub required-length : ℕ → ℕ
-required-length events = header-length + entry-length * events
+abbrev pub entry-at : List ℕ → ℕ → ℕ
+entry-at file event = header-length + entry-length file * event
+
+-- The length that the counts require: the entries are the last.
+abbrev pub required-length : List ℕ → ℕ
+required-length file = entry-at file (event-count file)
+
+-- The kind of the entry of an event, and where its terms begin if it has opinions.
+abbrev pub kind : List ℕ → ℕ → ℕ
+kind file event = byte file (entry-at file event)
+
+abbrev pub terms-at : List ℕ → ℕ → ℕ
+terms-at file event = entry-at file event + 1
+
+-- The term of an expert where the terms begin at a place; 0 where the expert said nothing.
+abbrev pub term : List ℕ → ℕ → ℕ → ℕ
+term file terms expert = byte file (terms + expert)
+
+-- The unit of the sheet's numbers, and of the ends that are reported from it: so many make 1.
+abbrev pub unit : List ℕ → ℕ
+unit file = billion

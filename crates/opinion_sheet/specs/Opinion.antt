@@ -1,5 +1,4 @@
 -- The opinions of an entry as the theory has them: an expert's score byte and term byte are what the expert said.
--- Assumes nothing.
 use Prim.Native.Nat.{ℕ, zero, suc, _+_, _-_}
 use mathlib.Core.List.{List, [], _∷_, _++_}
 use mathlib.Core.Bool.{cond}
@@ -7,7 +6,7 @@ use lib.ListN.{getD}
 use lib.Dec.{eqb}
 use Rattle.theory.specs.Opinion.{Term, very-low, low, fairly-low, medium, fairly-high, high, very-high}
 use Rattle.theory.specs.Opinion.{Opinion, says, silent}
-use Rattle.opinion_sheet.specs.Format.{byte-at, score-of}
+use Rattle.opinion_sheet.specs.Format.{score, term}
 
 -- The terms in the order of their codes.
 abbrev pub terms-in-order : List Term
@@ -17,12 +16,12 @@ terms-in-order = very-low ∷ low ∷ fairly-low ∷ medium ∷ fairly-high ∷ 
 abbrev pub term-of : ℕ → Term
 term-of code = getD terms-in-order (code - 1) very-low
 
--- What an expert with a score said by a term byte: 0 is nothing.
+-- What an expert with a score said by a term code: 0 is nothing.
 abbrev pub opinion-of : ℕ → ℕ → Opinion
-opinion-of score term = cond (eqb term 0) (silent score) (says score (term-of term))
+opinion-of given code = cond (eqb code 0) (silent given) (says given (term-of code))
 
 -- The opinions of the first n experts where the terms begin at a place.
 unfoldable pub opinions-among : List ℕ → ℕ → ℕ → List Opinion
-opinions-among s terms zero = []
-opinions-among s terms (suc n) =
-    opinions-among s terms n ++ (opinion-of (score-of s n) (byte-at s (terms + n)) ∷ [])
+opinions-among file terms zero = []
+opinions-among file terms (suc n) =
+    opinions-among file terms n ++ (opinion-of (score file n) (term file terms n) ∷ [])

@@ -1,38 +1,41 @@
 -- What inner functions ask of their callers, so that every read is inside the file and every sum fits. `judge` asks
--- nothing; a sheet without a fault gives all of this. Assumes nothing.
+-- nothing; a well-formed file gives all of this.
 use Prim.Native.Nat.{ℕ, _+_, _*_, _≤_, _<_}
 use mathlib.Core.List.{List}
-use lib.ListN.{length}
-use Rattle.opinion_sheet.specs.Format.{byte-at, expert-count, header-length, entry-length, expert-places}
-use Rattle.theory.specs.Unit.{billion}
+use lib.ListN.{length, getD}
 use Rattle.theory.specs.Trapezoid.{Trapezoid}
+use Rattle.opinion_sheet.specs.Format.{header-length, entry-length, expert-count, expert-places, term, max-term}
 use Rattle.opinion_sheet.specs.declared.mean.Sums.{Sums}
 
--- An entry at a place lies inside a file that has a header with no more experts than there are places.
-pub record EntryInside (s : List ℕ) (at : ℕ) : Type 0 where
-  pub header-inside : header-length ≤ length s
-  pub experts-bounded : expert-count s ≤ expert-places
-  pub entry-inside : at + entry-length ≤ length s
+-- An entry at a place lies inside a file that has a header.
+pub record EntryInside (file : List ℕ) (at : ℕ) : Type 0 where
+  pub header-inside : header-length ≤ length file
+  pub entry-inside : at + entry-length file ≤ length file
 
--- The scores and the terms lie inside the file, and each term is a row of the table or 0.
-pub record TermsInside (s : List ℕ) (terms : ℕ) : Type 0 where
-  pub header-inside : header-length ≤ length s
-  pub terms-inside : terms + expert-places ≤ length s
-  pub terms-bounded : (i : ℕ) → i < expert-places → byte-at s (terms + i) ≤ 7
+-- The scores and the terms of the listed experts lie inside the file, and each term is a row of the table or 0.
+pub record OpinionsInside (file : List ℕ) (terms : ℕ) : Type 0 where
+  pub header-inside : header-length ≤ length file
+  pub experts-most : expert-count file ≤ expert-places
+  pub terms-inside : terms + expert-places ≤ length file
+  pub term-most : (i : ℕ) → i < expert-count file → term file terms i ≤ max-term
 
--- The sums leave room for one expert more in 32 bits.
-pub record Room (sums : Sums) : Type 0 where
+-- The sums leave room in 32 bits for one opinion more, whose term has values of at most 100.
+pub record SumsRoom (sums : Sums) (row : List ℕ) (given : ℕ) : Type 0 where
   pub scores-room : sums .scores ≤ 1_000_000
   pub low-room : sums .low ≤ 1_000_000
   pub likely-room : sums .likely ≤ 1_000_000
   pub high-room : sums .high ≤ 1_000_000
+  pub low-value : getD row 0 0 ≤ 100
+  pub likely-value : getD row 1 0 ≤ 100
+  pub high-value : getD row 2 0 ≤ 100
+  pub score-room : given ≤ 255
 
--- Numerators rise to at most U units, over a denominator small enough for 64 bits.
-pub record Cuttable (units : ℕ) (x : Trapezoid) : Type 0 where
+-- Numerators rise to at most U when counted in so many units to 1, over a denominator small enough for 64 bits.
+pub record Cuttable (U units : ℕ) (x : Trapezoid) : Type 0 where
   pub a-b : x .a ≤ x .b
   pub b-c : x .b ≤ x .c
   pub c-d : x .c ≤ x .d
-  pub d-unit : x .d * units ≤ billion * x .den
+  pub d-unit : x .d * units ≤ U * x .den
   pub units-positive : 0 < units
   pub den-positive : 0 < x .den
   pub den-bounded : x .den ≤ 1_000_000

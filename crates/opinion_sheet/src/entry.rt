@@ -1,17 +1,22 @@
 // The entries: what each holds, and refusals 6 and 10 to 12.
-use crate::fields::byte_at;
-use crate::fields::read32;
+use crate::fault::broken;
 use crate::format::ENTRY_LENGTH;
 use crate::format::HEADER_LENGTH;
-use crate::format::UNIT;
+use crate::format::NUMBERS_KIND;
+use crate::format::OPINIONS_KIND;
 use crate::opinions::judge_opinions;
-use crate::refusal::FirstFault;
-use crate::refusal::Refusal;
+use fields::fields::byte_at;
+use fields::fields::field32_at;
+use refusals::refusal::FirstFault;
+use refusals::rule::Rule;
+use rounding::unit::UNIT;
 ghost use mathlib.Core.Path.{_≡_};
 ghost use Prim.Native.Nat.{_+_, _≤_};
 ghost use lib.ListN.{length};
-ghost use Rattle.opinion_sheet.specs.Format.{entry-at, entry-length, expert-count, expert-places};
-ghost use Rattle.opinion_sheet.specs.Entries.{numbers-fault, entry-fault, entries-fault, entry-of, numbers-of};
+ghost use Rattle.theory.specs.Unit.{billion};
+ghost use Rattle.refusals.specs.FirstFault.{first-among};
+ghost use Rattle.opinion_sheet.specs.Format.{entry-at, entry-length};
+ghost use Rattle.opinion_sheet.specs.EntryRules.{numbers-of, entry-of, numbers-fault, entry-fault};
 ghost use Rattle.opinion_sheet.specs.Requirements.{EntryInside};
 
 // Four numbers in units.
@@ -29,66 +34,66 @@ pub enum Entry {
 }
 
 // The four numbers of the entry at a place.
-pub fn read_numbers(sheet: &[u8], at: usize) -> Numbers
-    requires { ⌜ at + entry-length ≤ length (now sheet) ⌝ }
-    ensures { λ r. ⌜ r ≡ numbers-of (now (sheet .entry)) at ⌝ }
+pub fn read_numbers(file: &[u8], at: usize) -> Numbers
+    requires { ⌜ at + entry-length (now file) ≤ length (now file) ⌝ }
+    ensures { λ r. ⌜ r ≡ numbers-of (now (file .entry)) at ⌝ }
 {
-    let a = read32(sheet, at + 1);
-    let b = read32(sheet, at + 5);
-    let c = read32(sheet, at + 9);
-    let d = read32(sheet, at + 13);
+    let a = field32_at(file, at + 1);
+    let b = field32_at(file, at + 5);
+    let c = field32_at(file, at + 9);
+    let d = field32_at(file, at + 13);
     Numbers { a, b, c, d }
 }
 
-// The entry of an event, in a sheet without a fault.
-pub fn read_entry(sheet: &[u8], event: usize) -> Entry
-    requires { ⌜ entry-at event + entry-length ≤ length (now sheet) ⌝ }
-    ensures { λ r. ⌜ r ≡ entry-of (now (sheet .entry)) event ⌝ }
+// The entry of an event, in a well-formed file.
+pub fn read_entry(file: &[u8], event: usize) -> Entry
+    requires { ⌜ entry-at (now file) event + entry-length (now file) ≤ length (now file) ⌝ }
+    ensures { λ r. ⌜ r ≡ entry-of (now (file .entry)) event ⌝ }
 {
     let at = HEADER_LENGTH + ENTRY_LENGTH * event;
-    let kind = byte_at(sheet, at);
-    if kind == 0 {
-        return Entry::Numbers(read_numbers(sheet, at));
+    let kind = byte_at(file, at);
+    if kind == NUMBERS_KIND {
+        return Entry::Numbers(read_numbers(file, at));
     }
     Entry::Opinions(at + 1)
 }
 
 // The fault of the number entry at a place.
-pub fn judge_numbers(sheet: &[u8], at: usize) -> FirstFault
-    requires { ⌜ at + entry-length ≤ length (now sheet) ⌝ }
-    ensures { λ r. ⌜ r ≡ numbers-fault (now (sheet .entry)) at ⌝ }
+pub fn judge_numbers(file: &[u8], at: usize) -> FirstFault
+    requires { ⌜ at + entry-length (now file) ≤ length (now file) ⌝ }
+    ensures { λ r. ⌜ r ≡ numbers-fault billion (now (file .entry)) at ⌝ }
 {
-    let x = read_numbers(sheet, at);
-    if (x.a <= x.b) & (x.b <= x.c) & (x.c <= x.d) & (x.d <= UNIT) {
+    let x = read_numbers(file, at);
+    if (x.a <= x.b) & (x.b <= x.c) & (x.c <= x.d) & (x.d <= UNIT as u32) {
         return FirstFault::Absent;
     }
-    FirstFault::Found(Refusal::NumberOrder(at))
+    broken(Rule::NumberOrder, at)
 }
 
 // The fault of the entry of an event.
-pub fn judge_entry(sheet: &[u8], event: usize) -> FirstFault
-    requires { ⌜ EntryInside (now sheet) (entry-at event) ⌝ }
-    ensures { λ r. ⌜ r ≡ entry-fault (now (sheet .entry)) event ⌝ }
+pub fn judge_entry(file: &[u8], event: usize) -> FirstFault
+    requires { ⌜ EntryInside (now file) (entry-at (now file) event) ⌝ }
+    ensures { λ r. ⌜ r ≡ entry-fault billion (now (file .entry)) event ⌝ }
 {
     let at = HEADER_LENGTH + ENTRY_LENGTH * event;
-    let kind = byte_at(sheet, at);
-    if kind == 0 {
-        return judge_numbers(sheet, at);
+    let kind = byte_at(file, at);
+    if kind == NUMBERS_KIND {
+        return judge_numbers(file, at);
     }
-    if kind == 1 {
-        return judge_opinions(sheet, at);
+    if kind == OPINIONS_KIND {
+        return judge_opinions(file, at);
     }
-    FirstFault::Found(Refusal::Kind(at))
+    broken(Rule::UnknownKind, at)
 }
 
 // The first fault among the entries of some events.
-pub fn judge_entries(sheet: &[u8], events: usize) -> FirstFault
-    requires { ⌜ (entry-at events ≤ length (now sheet)) × (expert-count (now sheet) ≤ expert-places) ⌝ }
-    ensures { λ r. ⌜ r ≡ entries-fault (now (sheet .entry)) events ⌝ }
+pub fn judge_entries(file: &[u8], events: usize) -> FirstFault
+    requires { ⌜ entry-at (now file) events ≤ length (now file) ⌝ }
+    ensures { λ r. ⌜ r ≡ first-among (entry-fault billion (now (file .entry))) events ⌝ }
 {
     let mut event: usize = 0;
     while event < events {
-        let found = judge_entry(sheet, event);
+        let found = judge_entry(file, event);
         if let FirstFault::Found(refusal) = found {
             return FirstFault::Found(refusal);
         }

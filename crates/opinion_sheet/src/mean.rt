@@ -1,13 +1,16 @@
-// The score-weighted sums over the experts who spoke.
-use crate::fields::byte_at;
-use crate::format::EXPERT_PLACES;
+// The mean of opinions, weighted by score over the experts who spoke.
 use crate::format::SCORES_PLACE;
-use crate::terms::term_value;
+use crate::format::expert_count;
+use crate::fractions::Fractions;
+use crate::terms::TERMS;
+use fields::fields::byte_at;
 ghost use mathlib.Core.Path.{_≡_};
-ghost use Prim.Native.Nat.{_<_, _≤_};
-ghost use Rattle.opinion_sheet.specs.Format.{expert-places};
-ghost use Rattle.opinion_sheet.specs.Mean.{with-opinion, sums-among};
-ghost use Rattle.opinion_sheet.specs.Requirements.{Room, TermsInside};
+ghost use Rattle.theory.specs.Opinion.{mean};
+ghost use Rattle.opinion_sheet.specs.Format.{expert-count};
+ghost use Rattle.opinion_sheet.specs.Opinion.{opinions-among};
+ghost use Rattle.opinion_sheet.specs.Mean.{with-opinion};
+ghost use Rattle.opinion_sheet.specs.EventCut.{fractions-trapezoid};
+ghost use Rattle.opinion_sheet.specs.Requirements.{SumsRoom, OpinionsInside};
 
 // The sum of the scores, and of score × value for the terms' a, b = c and d, in hundredths.
 pub struct Sums {
@@ -17,31 +20,27 @@ pub struct Sums {
     pub high: u32,
 }
 
-// The sums with the opinion of one expert more; a silent one changes nothing.
-pub fn with_opinion(sums: Sums, term: u32, score: u32) -> Sums
-    requires { ⌜ (term ≤ 7) × (score < 256) × Room sums ⌝ }
-    ensures { λ r. ⌜ r ≡ with-opinion sums term score ⌝ }
+// The sums with one opinion more, by the row of its term.
+pub fn with_opinion(sums: Sums, row: [u32; 3], score: u32) -> Sums
+    requires { ⌜ SumsRoom sums row score ⌝ }
+    ensures { λ r. ⌜ r ≡ with-opinion sums row score ⌝ }
 {
-    if term == 0 {
-        return sums;
-    }
-    let code = term as usize;
-    let low = term_value(code, 0);
-    let likely = term_value(code, 1);
-    let high = term_value(code, 2);
     Sums {
         scores: sums.scores + score,
-        low: sums.low + score * low,
-        likely: sums.likely + score * likely,
-        high: sums.high + score * high,
+        low: sums.low + score * row[0],
+        likely: sums.likely + score * row[1],
+        high: sums.high + score * row[2],
     }
 }
 
-// The sums over the sixteen experts of the opinions whose terms begin at a place.
-pub fn sums_of(sheet: &[u8], terms: usize) -> Sums
-    requires { ⌜ TermsInside (now sheet) terms ⌝ }
-    ensures { λ r. ⌜ r ≡ sums-among (now (sheet .entry)) terms expert-places ⌝ }
+// The mean of the opinions whose terms begin at a place. The table stands on the stack once, not once an opinion.
+pub fn mean_of(file: &[u8], terms: usize) -> Fractions
+    requires { ⌜ OpinionsInside (now file) terms ⌝ }
+    ensures { λ r. ⌜ fractions-trapezoid r
+        ≡ mean (opinions-among (now (file .entry)) terms (expert-count (now (file .entry)))) ⌝ }
 {
+    let rows = TERMS;
+    let experts = expert_count(file);
     let mut sums = Sums {
         scores: 0,
         low: 0,
@@ -49,11 +48,19 @@ pub fn sums_of(sheet: &[u8], terms: usize) -> Sums
         high: 0,
     };
     let mut expert: usize = 0;
-    while expert < EXPERT_PLACES {
-        let term = byte_at(sheet, terms + expert);
-        let score = byte_at(sheet, SCORES_PLACE + expert);
-        sums = with_opinion(sums, term, score);
+    while expert < experts {
+        let term = byte_at(file, terms + expert);
+        if term != 0 {
+            let score = byte_at(file, SCORES_PLACE + expert);
+            sums = with_opinion(sums, rows[term - 1], score as u32);
+        }
         expert += 1;
     }
-    sums
+    Fractions {
+        den: 100 * (sums.scores as u64),
+        a: sums.low as u64,
+        b: sums.likely as u64,
+        c: sums.likely as u64,
+        d: sums.high as u64,
+    }
 }

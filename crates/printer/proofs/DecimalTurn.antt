@@ -1,4 +1,4 @@
--- A number put into a draft: one digit, or its tenth and then its last digit. Assumes nothing.
+-- A number put into a draft: one digit, or its tenth and then its last digit.
 use Prim.Native.Nat.{ℕ, _+_, _/_, _%_, _≤_, _<_}
 use native.Mathlib.Nat.{div-lt-self}
 use native.Mathlib.Omega.{arith}

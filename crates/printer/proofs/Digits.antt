@@ -1,4 +1,4 @@
--- A number in decimal: by its tenth, and how many digits it has. Assumes nothing.
+-- A number in decimal: by its tenth, and how many digits it has.
 use Prim.Native.Nat.{ℕ, zero, suc, _+_, _*_, _/_, _%_, _^_, _≤_, _<_}
 use native.Mathlib.Nat.{div-lt-self, div-lt-iff-lt-mul, pow-suc}
 use native.Mathlib.Omega.{arith}

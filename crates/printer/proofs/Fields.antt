@@ -1,15 +1,15 @@
--- A field of a line put into a draft, with the byte after it. Assumes nothing.
+-- A field of a line put into a draft, with the byte after it.
 use Prim.Native.Nat.{ℕ, _+_, _-_, _≤_, _<_}
 use native.Mathlib.Omega.{arith}
-use mathlib.Core.Path.{_≡_, refl, ap, _∙_}
-use mathlib.Core.Bool.{Bool}
+use mathlib.Core.Path.{_≡_, ap, _∙_}
 use mathlib.Core.List.{List, [], _∷_, _++_, append-nil}
-use lib.ListN.{length, take, drop, set, length-append, length-drop, length-set, drop-of-length-le}
-use lib.Seq.{take-all, take-length, drop-drop}
+use lib.ListN.{length, take, drop, set, length-append, length-drop, drop-of-length-le}
+use lib.Seq.{take-length, drop-drop}
 use borrow.Rule.Slice.PartMut.{putMid, same-len-mid}
-use Rattle.printer.specs.Line.{ended, mark}
-use Rattle.printer.specs.Put.{with-text, Put, Room}
-use Rattle.printer.proofs.Puts.{byte-put, put-byte}
+use Rattle.fields.proofs.Parts.{part-from}
+use Rattle.printer.specs.Line.{ended}
+use Rattle.printer.specs.Put.{Put, Room}
+use Rattle.printer.proofs.Puts.{put-byte}
 
 -- A field that is put has room for the byte after it, inside the draft.
 module _ (field draft between : List ℕ) (place end after : ℕ) (room : Room (ended field after) place draft)
@@ -39,7 +39,7 @@ field-room field draft place after room = omega (arith, length-append field (aft
 module _ (word draft : List ℕ) (place after : ℕ) (room : Room (ended word after) place draft) where
   -- the part reaches to the draft's end
   part-whole : take (length draft - place) (drop place draft) ≡ drop place draft
-  part-whole = take-all (length draft - place) (drop place draft) (omega (arith, length-drop place draft))
+  part-whole = part-from draft place
 
   -- the word fits the part
   pub word-fits : length word ≤ length (take (length draft - place) (drop place draft))
@@ -86,26 +86,3 @@ module _ (word draft : List ℕ) (place after : ℕ) (room : Room (ended word af
     pub word-ended : Put (ended word after) place draft
         (set (putMid place (length draft - place) draft copied) (place + count) after) (place + count + 1)
     word-ended = after-put word draft _ place (place + count) after room word-put same
-
--- A mark and the byte after it.
-module _ (exact : Bool) (draft : List ℕ) (place after byte : ℕ) (e : byte ≡ mark exact)
-    (room : Room (ended (mark exact ∷ []) after) place draft) where
-  -- there is a place after the mark
-  pub mark-inside : place + 1 < length (set draft place byte)
-  mark-inside = omega (arith, room, length-set draft place byte)
-
-  -- the mark is put
-  mark-put : Put (mark exact ∷ []) place draft (set draft place byte) (place + 1)
-  mark-put = record {
-    bytes =
-        byte-put draft place byte (omega (arith, room))
-        ∙ ap (λ (b : ℕ). with-text place (b ∷ []) draft) e;
-    end-is = refl;
-  }
-
-  -- and the byte after it
-  pub mark-ended : Put (ended (mark exact ∷ []) after) place draft
-      (set (set draft place byte) (place + 1) after) (place + 2)
-  mark-ended =
-      let both = put-byte after (length-set draft place byte) room mark-put in
-      record { bytes = both .bytes; end-is = refl }

@@ -1,145 +1,110 @@
--- The text for an input, by its split. Assumes nothing.
-use Prim.Native.Nat.{ℕ, _+_, _-_, _≤_}
+-- Whether an input is that of two files, and where they stand in it.
+use Prim.Native.Nat.{ℕ, _+_, _-_, _≤_, _<_}
 use native.Mathlib.Omega.{arith}
-use mathlib.Core.Path.{_≡_, refl, sym, ap, ap₂, _∙_, subst}
-use mathlib.Core.Bool.{Bool, true, false, _&&_, cond, and-eq-true-iff}
+use mathlib.Core.Path.{_≡_, sym, ap, ap₂, _∙_}
+use mathlib.Core.Bool.{Bool, true, false, _&&_, not, cond, and-eq-true-iff}
 use mathlib.Core.List.{List}
 use lib.ListN.{length, take, drop, length-take, length-drop}
-use lib.Seq.{take-all}
 use lib.Dec.{leb, eqb}
-use borrow.Author.Tests.{leb-true, eqb-true}
-use Rattle.printer.specs.Input.{level-count, tree-length, sheet-length, tree-end, lengths-good, well-framed}
-use Rattle.printer.specs.Input.{split-of, tree-of, sheet-of}
-use Rattle.printer.specs.Text.{input-line, text-of, whole-text}
+use borrow.Author.Tests.{le-leb, lt-leb, leb-true, eqb-true, not-true, not-false}
+use Rattle.fields.specs.Fields.{Is16}
+use Rattle.fields.proofs.Parts.{part-from}
+use Rattle.printer.specs.Line.{input-line}
+use Rattle.printer.specs.Input.{level-count, tree-length, sheet-length, tree-end, most-tree, most-sheet}
+use Rattle.printer.specs.Input.{well-framed, tree-bytes, sheet-bytes}
+use Rattle.printer.specs.Text.{text-of, whole-text}
 use Rattle.printer.specs.Put.{Put}
-use Rattle.printer.specs.declared.input.Parts.{Parts}
-use Rattle.printer.specs.declared.input.Split.{Split}
-use Rattle.printer.specs.declared.input.Split.the-variants.{Whole, Malformed}
+use Rattle.printer.proofs.Puts.{put-as}
 
--- What a whole input is: its parts, and the lengths of its two files.
-record Framed (input : List ℕ) (whole : Parts) : Type 0 where
-  framed : well-framed input ≡ true
-  n-is : whole .n ≡ level-count input
-  end-is : whole .«tree_end» ≡ 6 + tree-length input
-  long : length input ≡ 6 + tree-length input + sheet-length input
-  tree-most : tree-length input ≤ 7175
-  sheet-most : sheet-length input ≤ 17434
+-- What a framed input is.
+record Framed (input : List ℕ) : Type 0 where
+  fields : 6 ≤ length input
+  whole : length input ≡ 6 + tree-length input + sheet-length input
+  tree-most : tree-length input ≤ most-tree
+  sheet-most : sheet-length input ≤ most-sheet
 
--- an input passes all four tests, or is malformed
 module _ (input : List ℕ) where
-  -- its lengths, where it passes
-  passed : well-framed input ≡ true → (length input ≡ 6 + tree-length input + sheet-length input)
-      × ((tree-length input ≤ 7175) × (sheet-length input ≤ 17434))
+  -- it is shorter than its three fields
+  pub too-few : length input < 6 → false ≡ well-framed input
   unfolding well-framed
-  passed e =
-      let outer = and-eq-true-iff (leb 6 (length input) && eqb (length input) (tree-end input + sheet-length input))
-      (lengths-good input) .0 e in
-      let first = and-eq-true-iff (leb 6 (length input)) (eqb (length input) (tree-end input + sheet-length input)) .0
-      (outer .0) in
-      let second = and-eq-true-iff (leb (tree-length input) 7175) (leb (sheet-length input) 17434) .0 (outer .1) in
-      (eqb-true _ _ (first .1), (leb-true _ _ (second .0), leb-true _ _ (second .1)))
+  too-few l = rw (lt-leb 6 (length input) l)
 
-  module _ (parts : Split) (e : parts ≡ split-of input) where
-    -- the parts of a whole input
-    abbrev in-parts : Split
-    in-parts = Whole (record { n = level-count input; «tree_end» = tree-end input })
+  -- by the lengths read
+  pub by-lengths : 6 ≤ length input → (tree sheet whole : ℕ) → Is16 tree (tree-length input)
+      → Is16 sheet (sheet-length input) → whole ≡ 6 + tree + sheet
+      → eqb (length input) whole && leb tree most-tree && leb sheet most-sheet ≡ well-framed input
+  unfolding well-framed
+  by-lengths l tree sheet whole t s e = rw (le-leb 6 (length input) l, e, t .value, s .value)
 
-    -- by the test
-    parts-by : (b : Bool) → well-framed input ≡ b → parts ≡ cond b in-parts Malformed
-    unfolding split-of
-    parts-by b f =
-        e ∙ ap (λ (b : Bool). cond b in-parts Malformed) f
+  -- each test holds
+  framed-of : well-framed input ≡ true → Framed input
+  unfolding well-framed
+  framed-of e =
+      let long = eqb (length input) (tree-end input + sheet-length input) in
+      let tree = leb (tree-length input) most-tree in
+      let sheet = leb (sheet-length input) most-sheet in
+      let all = and-eq-true-iff (leb 6 (length input)) (long && tree && sheet) .0 e in
+      let lengths = and-eq-true-iff (long && tree) sheet .0 (all .1) in
+      let first = and-eq-true-iff long tree .0 (lengths .0) in
+      record {
+        fields = leb-true _ _ (all .0);
+        whole = eqb-true _ _ (first .0);
+        tree-most = leb-true _ _ (first .1);
+        sheet-most = leb-true _ _ (lengths .1);
+      }
 
-    -- a malformed input gets its line
-    pub input-put : parts ≡ Malformed → (before after : List ℕ) (end : ℕ) → Put input-line 0 before after end
-        → Put (whole-text input) 0 before after end
+  module _ (test : Bool) (e : test ≡ well-framed input) where
+    -- the text by the test
+    text-is : (b : Bool) → test ≡ b
+        → cond b (text-of (tree-bytes input) (sheet-bytes input) (level-count input)) input-line ≡ whole-text input
     unfolding whole-text
-    input-put h before after end put = go (well-framed input) refl
-      where
-        go : (b : Bool) → well-framed input ≡ b
-            → Put (cond b (text-of (tree-of input) (sheet-of input) (level-count input)) input-line) 0 before after end
-        go true f =
-            let met : Malformed ≡ Whole (record { n = level-count input; «tree_end» = tree-end input }) =
-            sym h ∙ parts-by true f in
-            let clash : _≡_ {A = ℕ} 0 1 = cc in
-            absurd (omega arith)
-        go false f = put
+    text-is b h = rw (← e, h)
 
-    -- a whole one has its parts
-    framed-of : (whole : Parts) → parts ≡ Whole whole → Framed input whole
-    framed-of whole h = go (well-framed input) refl
-      where
-        go : (b : Bool) → well-framed input ≡ b → Framed input whole
-        go true f =
-            let met : Whole whole ≡ Whole (record { n = level-count input; «tree_end» = tree-end input }) =
-            sym h ∙ parts-by true f in
-            let same : whole ≡ record { n = level-count input; «tree_end» = tree-end input } = cc in
-            let lengths = passed f in
-            record {
-              framed = f;
-              n-is = ap (λ (w : Parts). w .n) same;
-              end-is = ap (λ (w : Parts). w .«tree_end») same;
-              long = lengths .0;
-              tree-most = lengths .1 .0;
-              sheet-most = lengths .1 .1;
-            }
-        go false f =
-            let met : Whole whole ≡ Malformed = sym h ∙ parts-by false f in
-            let clash : _≡_ {A = ℕ} 0 1 = cc in
-            absurd (omega arith)
+    -- an input that is not framed gets its line
+    pub input-put : not test ≡ true → (before after : List ℕ) (end : ℕ) → Put input-line 0 before after end
+        → Put (whole-text input) 0 before after end
+    input-put h before after end = put-as (text-is false (not-true test h))
 
-    module _ (whole : Parts) (h : parts ≡ Whole whole) where
-      -- the tree begins before it ends
-      pub tree-begins : 6 ≤ whole .«tree_end»
-      tree-begins = omega (arith, framed-of whole h .end-is)
+    module _ (h : not test ≡ false) where
+      framed : Framed input
+      framed = framed-of (sym e ∙ not-false test h)
 
-      -- and ends in the input
-      pub tree-inside : whole .«tree_end» ≤ length input
-      tree-inside = omega (arith, framed-of whole h .end-is, framed-of whole h .long)
+      -- the fields of n and of the tree's length
+      pub n-inside : 0 + 1 < length input
+      n-inside = omega (arith, framed .fields)
 
-      -- the tree's bytes
-      tree-part : take (whole .«tree_end» - 6) (drop 6 input) ≡ tree-of input
-      tree-part =
-          let size : whole .«tree_end» - 6 ≡ tree-length input = omega (arith, framed-of whole h .end-is) in
-          ap (λ (size : ℕ). take size (drop 6 input)) size
+      pub length-inside : 2 + 1 < length input
+      length-inside = omega (arith, framed .fields)
 
-      -- the sheet's
-      sheet-part : take (length input - whole .«tree_end») (drop (whole .«tree_end») input) ≡ sheet-of input
-      sheet-part =
-          take-all (length input - whole .«tree_end») (drop (whole .«tree_end») input)
-          (omega (arith, length-drop (whole .«tree_end») input))
-          ∙ ap (λ (end : ℕ). drop end input) (framed-of whole h .end-is)
+      module _ (size : ℕ) (t : Is16 size (tree-length input)) where
+        -- the tree ends in the input
+        pub tree-inside : 6 + size ≤ length input
+        tree-inside = omega (arith, framed .whole, t .value)
 
-      -- their lengths
-      pub tree-short : length (take (whole .«tree_end» - 6) (drop 6 input)) ≤ 7175
-      tree-short =
-          let size : whole .«tree_end» - 6 ≡ tree-length input = omega (arith, framed-of whole h .end-is) in
-          omega (arith, length-take (whole .«tree_end» - 6) (drop 6 input), size, framed-of whole h .tree-most)
+        -- the tree's bytes
+        tree-part : take (6 + size - 6) (drop 6 input) ≡ tree-bytes input
+        tree-part =
+            let same : 6 + size - 6 ≡ tree-length input = omega (arith, t .value) in
+            ap (λ (n : ℕ). take n (drop 6 input)) same
 
-      pub sheet-short : length (take (length input - whole .«tree_end») (drop (whole .«tree_end») input)) ≤ 17434
-      sheet-short =
-          omega (
-            arith,
-            ap length sheet-part,
-            length-drop (tree-end input) input,
-            framed-of whole h .long,
-            framed-of whole h .sheet-most,
-          )
+        -- the sheet's
+        sheet-part : take (length input - (6 + size)) (drop (6 + size) input) ≡ sheet-bytes input
+        sheet-part = part-from input (6 + size) ∙ ap (λ (n : ℕ). drop (6 + n) input) (t .value)
 
-      -- the text put for them is the input's
-      pub parts-put : (before after : List ℕ) (end : ℕ)
-          → Put (text-of (take (whole .«tree_end» - 6) (drop 6 input))
-          (take (length input - whole .«tree_end») (drop (whole .«tree_end») input)) (whole .n)) 0 before after end
-          → Put (whole-text input) 0 before after end
-      unfolding whole-text
-      parts-put before after end put =
-          let named : text-of (take (whole .«tree_end» - 6) (drop 6 input))
-          (take (length input - whole .«tree_end») (drop (whole .«tree_end») input)) (whole .n)
-          ≡ text-of (tree-of input) (sheet-of input) (level-count input) =
-          ap₂ (λ (t s : List ℕ). text-of t s (whole .n)) tree-part sheet-part
-          ∙ ap (text-of (tree-of input) (sheet-of input)) (framed-of whole h .n-is) in
-          let chosen : text-of (tree-of input) (sheet-of input) (level-count input)
-          ≡ cond (well-framed input) (text-of (tree-of input) (sheet-of input) (level-count input)) input-line =
-          sym (ap (λ (b : Bool). cond b (text-of (tree-of input) (sheet-of input) (level-count input)) input-line)
-          (framed-of whole h .framed)) in
-          subst (λ (text : List ℕ). Put text 0 before after end) (named ∙ chosen) put
+        -- their lengths
+        pub tree-short : length (take (6 + size - 6) (drop 6 input)) ≤ most-tree
+        tree-short = omega (arith, length-take (6 + size - 6) (drop 6 input), framed .tree-most, t .value)
+
+        pub sheet-short : length (take (length input - (6 + size)) (drop (6 + size) input)) ≤ most-sheet
+        sheet-short =
+            omega (arith, ap length sheet-part, length-drop (tree-end input) input, framed .whole, framed .sheet-most)
+
+        -- the text put for them is the input's
+        pub parts-put : (n : ℕ) → Is16 n (level-count input) → (before after : List ℕ) (end : ℕ)
+            → Put (text-of (take (6 + size - 6) (drop 6 input))
+            (take (length input - (6 + size)) (drop (6 + size) input)) n) 0 before after end
+            → Put (whole-text input) 0 before after end
+        parts-put n is before after end =
+            put-as (ap₂ (λ (t s : List ℕ). text-of t s n) tree-part sheet-part
+            ∙ ap (text-of (tree-bytes input) (sheet-bytes input)) (is .value)
+            ∙ text-is true (not-false test h))

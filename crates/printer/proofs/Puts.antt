@@ -1,11 +1,11 @@
--- Texts put into a draft: one byte, two texts one after the other, a whole text at the front. Assumes nothing.
+-- Texts put into a draft: one byte, two texts one after the other, texts that make up a third.
 use Prim.Native.Nat.{ℕ, suc, _+_, _≤_, _<_}
 use native.Mathlib.Omega.{arith}
-use mathlib.Core.Path.{_≡_, refl, sym, ap, _∙_}
+use mathlib.Core.Path.{_≡_, refl, sym, ap, _∙_, subst}
 use mathlib.Core.List.{List, [], _∷_, _++_, append-assoc}
 use lib.ListN.{length, take, drop, set, length-append, take-append-drop}
 use lib.Seq.{length-take-le, take-at, drop-at, drop-drop, set-split}
-use Rattle.printer.specs.Put.{with-text, Put}
+use Rattle.printer.specs.Put.{with-text, Put, Room}
 
 -- a byte stored at a place is a text of one byte there
 pub byte-put : (draft : List ℕ) (place byte : ℕ) → place < length draft
@@ -15,7 +15,7 @@ byte-put draft place byte l =
     set-split draft place byte l ∙ ap (λ (n : ℕ). take place draft ++ (byte ∷ drop n draft)) next
 
 -- a text put where another ends makes one text of both
-pub text-after : (draft text next : List ℕ) (place : ℕ) → place ≤ length draft
+text-after : (draft text next : List ℕ) (place : ℕ) → place ≤ length draft
     → with-text (place + length text) next (with-text place text draft) ≡ with-text place (text ++ next) draft
 text-after draft text next place l =
     let front = take place draft in
@@ -67,19 +67,34 @@ put-byte {text} {place} {end} {before} {between} byte same room first =
     put-then (omega arith) first
     (record { bytes = byte-put between end byte (omega (arith, first .end-is)); end-is = refl })
 
--- there is room for the first of two texts
-pub first-room : (text next draft : List ℕ) (place : ℕ) → place + length (text ++ next) ≤ length draft
-    → place + length text ≤ length draft
+-- a text under another name
+pub put-as : {text other : List ℕ} {place end : ℕ} {before after : List ℕ} → text ≡ other
+    → Put text place before after end → Put other place before after end
+put-as {place = place} {end = end} {before = before} {after = after} e put =
+    subst (λ (text : List ℕ). Put text place before after end) e put
+
+-- Two texts that make up a third, one after the other.
+pub record Parts (text next whole : List ℕ) : Type 0 where
+  pub joined : text ++ next ≡ whole
+
+-- how long the third is
+parts-length : {text next whole : List ℕ} → Parts text next whole → length whole ≡ length text + length next
+parts-length {text} {next} p = ap length (sym (p .joined)) ∙ length-append text next
+
+-- there is room for the first of two texts, and for the first two of three
+pub first-room : (text next draft : List ℕ) (place : ℕ) → Room (text ++ next) place draft → Room text place draft
 first-room text next draft place room = omega (arith, length-append text next)
 
--- and for the second once the first is put
-pub next-room : (text next draft between : List ℕ) (place end : ℕ) → place + length (text ++ next) ≤ length draft
-    → length between ≡ length draft → Put text place draft between end → end + length next ≤ length between
-next-room text next draft between place end room same first =
-    omega (arith, length-append text next, first .end-is)
+pub front-room : (text more next draft : List ℕ) (place : ℕ) → Room (text ++ (more ++ next)) place draft
+    → Room (text ++ more) place draft
+front-room text more next draft place room = first-room (text ++ more) next draft place (rw append-assoc room)
 
--- both are put
-pub both-put : (text next draft between after : List ℕ) (place end last : ℕ)
-    → place + length (text ++ next) ≤ length draft → Put text place draft between end → Put next end between after last
-    → Put (text ++ next) place draft after last
-both-put text next draft between after place end last room first second = put-then (omega arith) first second
+module _ (text next whole draft between : List ℕ) (place end : ℕ) (p : Parts text next whole)
+    (room : Room whole place draft) (first : Put text place draft between end) where
+  -- there is room for the second once the first is put
+  pub next-room : length between ≡ length draft → Room next end between
+  next-room same = omega (arith, parts-length p, first .end-is)
+
+  -- with the second the third is put
+  pub both-put : (after : List ℕ) (last : ℕ) → Put next end between after last → Put whole place draft after last
+  both-put after last second = put-as (p .joined) (put-then (omega arith) first second)

@@ -1,5 +1,4 @@
 -- For callers: a complete text lies within a buffer of 37,119 bytes, and the front of a slice has its length.
--- Assumes nothing.
 use Prim.Native.Nat.{ℕ, _≤_}
 use native.Mathlib.Omega.{arith}
 use mathlib.Core.Path.{_≡_, sym, ap}

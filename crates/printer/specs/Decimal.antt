@@ -1,4 +1,4 @@
--- A number in decimal, in ASCII, without leading zeros. Assumes nothing.
+-- A number in decimal, in ASCII, without leading zeros.
 use Prim.Native.Nat.{ℕ, zero, suc, _+_, _/_, _%_}
 use mathlib.Core.Bool.{cond}
 use mathlib.Core.List.{List, [], _∷_, _++_}

@@ -1,5 +1,5 @@
 -- What the level printer prints, byte for byte. The main contract is that of `print::print_levels`: it answers
--- `answer-of` and leaves `buffer-after` of Printed, both by `whole-text` of Text. Read in this order. Assumes nothing.
+-- `answer-of` and leaves `buffer-after` of Printed, both by `whole-text` of Text. Read in this order.
 pub mod Decimal
 pub mod Line
 pub mod Input

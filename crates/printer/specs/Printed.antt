@@ -1,4 +1,4 @@
--- What `print_levels` answers, and every byte of the lent buffer after it. Assumes nothing.
+-- What `print_levels` answers, and every byte of the lent buffer after it.
 use Prim.Native.Nat.{ℕ}
 use mathlib.Core.Bool.{cond}
 use mathlib.Core.List.{List, _++_}

@@ -4,85 +4,72 @@ use crate::field::put_end;
 use crate::field::put_labelled;
 use crate::field::put_number;
 use crate::field::put_word;
-use monitor::question::Report;
-use monitor::refusal::Refusal;
-use monitor::refusal::refusal_number;
-use monitor::refusal::refusal_place;
-ghost use Prim.Native.Nat.{_+_, _≤_};
+use refusals::refusal::Refusal;
+use refusals::rule::rule_number;
+use rounding::end::Enclosure;
+ghost use mathlib.Core.List.{_++_};
+ghost use Prim.Native.Nat.{_≤_};
 ghost use lib.ListN.{length};
-ghost use Rattle.printer.specs.Text.{input-line, refusal-line, header-line, level-line};
-ghost use Rattle.printer.specs.Put.{Put, counts-text, ends-text};
+ghost use Rattle.printer.specs.Line.{counts-fields, end-fields, header-line, input-line, level-line, line};
+ghost use Rattle.printer.specs.Line.{refusal-line};
+ghost use Rattle.printer.specs.Text.{most-text};
+ghost use Rattle.printer.specs.Put.{Put, Room};
 
 // The byte after the last field of a line.
 const LINE_FEED: u8 = 10;
 
 // Puts the line for an input whose lengths are not those of two files.
 pub fn put_input(draft: &mut [u8]) -> usize
-    requires { ⌜ 6 ≤ length (now draft) ⌝ }
+    requires { ⌜ Room input-line 0 (now draft) ⌝ }
     ensures { λ r. ⌜ Put input-line 0 (now (draft .entry)) (now (draft .exit)) r ⌝ }
 {
     put_word(b"input", LINE_FEED, draft, 0)
 }
 
-// Puts the line of a refusal. Each of its two numbers has at most 20 digits.
+// Puts the line of a refusal, which is shorter than the longest text.
 pub fn put_refusal(refusal: Refusal, draft: &mut [u8]) -> usize
-    requires { ⌜ 53 ≤ length (now draft) ⌝ }
+    requires { ⌜ most-text ≤ length (now draft) ⌝ }
     ensures { λ r. ⌜ Put (refusal-line refusal) 0 (now (draft .entry)) (now (draft .exit)) r ⌝ }
 {
-    let number = refusal_number(refusal);
-    let place = refusal_place(refusal);
+    let rule = refusal.rule;
+    let number = rule_number(rule);
     let end = put_labelled(b"refused", number, SPACE, draft, 0);
-    put_labelled(b"at", place, LINE_FEED, draft, end)
+    put_labelled(b"at", refusal.place, LINE_FEED, draft, end)
 }
 
-// Puts the header's counts, E and n. Each has at most 20 digits.
+// Puts the header's counts, E and n.
 fn put_counts(events: usize, n: u32, draft: &mut [u8], place: usize) -> usize
-    requires { ⌜ place + 56 ≤ length (now draft) ⌝ }
-    ensures { λ r. ⌜ Put (counts-text events n) place (now (draft .entry)) (now (draft .exit)) r ⌝ }
-    ensures { λ r. ⌜ r ≤ place + 56 ⌝ }
+    requires { ⌜ Room (line (counts-fields events n)) place (now draft) ⌝ }
+    ensures { λ r. ⌜ Put (line (counts-fields events n)) place (now (draft .entry)) (now (draft .exit)) r ⌝ }
 {
     let end = put_labelled(b"events", events, SPACE, draft, place);
     put_labelled(b"levels", n as usize, LINE_FEED, draft, end)
 }
 
-// Puts the header. The tree number has at most 20 digits.
+// Puts the header.
 pub fn put_header(number: usize, events: usize, n: u32, draft: &mut [u8]) -> usize
-    requires { ⌜ 82 ≤ length (now draft) ⌝ }
+    requires { ⌜ Room (header-line number events n) 0 (now draft) ⌝ }
     ensures { λ r. ⌜ Put (header-line number events n) 0 (now (draft .entry)) (now (draft .exit)) r ⌝ }
-    ensures { λ r. ⌜ r ≤ 82 ⌝ }
 {
     let end = put_labelled(b"tree", number, SPACE, draft, 0);
     put_counts(events, n, draft, end)
 }
 
-// Puts both ends of a level. The units of each have at most 10 digits.
-fn put_ends(report: Report, draft: &mut [u8], place: usize) -> usize
-    requires { ⌜ place + 26 ≤ length (now draft) ⌝ }
-    ensures { λ r. ⌜ Put (ends-text report) place (now (draft .entry)) (now (draft .exit)) r ⌝ }
-    ensures { λ r. ⌜ r ≤ place + 26 ⌝ }
+// Puts both ends of a level.
+fn put_ends(ends: Enclosure, draft: &mut [u8], place: usize) -> usize
+    requires { ⌜ Room (line (end-fields (ends .lower) ++ end-fields (ends .upper))) place (now draft) ⌝ }
+    ensures { λ r. ⌜ Put (line (end-fields (ends .lower) ++ end-fields (ends .upper)))
+        place (now (draft .entry)) (now (draft .exit)) r ⌝ }
 {
-    let end = put_end(
-        report.lower as usize,
-        report.lower_exact,
-        SPACE,
-        draft,
-        place,
-    );
-    put_end(
-        report.upper as usize,
-        report.upper_exact,
-        LINE_FEED,
-        draft,
-        end,
-    )
+    let next = put_end(ends.lower, SPACE, draft, place);
+    put_end(ends.upper, LINE_FEED, draft, next)
 }
 
-// Puts the line of level k, which has at most 10 digits.
-pub fn put_level(k: u32, report: Report, draft: &mut [u8], place: usize) -> usize
-    requires { ⌜ place + 37 ≤ length (now draft) ⌝ }
-    ensures { λ r. ⌜ Put (level-line k report) place (now (draft .entry)) (now (draft .exit)) r ⌝ }
-    ensures { λ r. ⌜ r ≤ place + 37 ⌝ }
+// Puts the line of level k.
+pub fn put_level(k: u32, ends: Enclosure, draft: &mut [u8], place: usize) -> usize
+    requires { ⌜ Room (level-line k ends) place (now draft) ⌝ }
+    ensures { λ r. ⌜ Put (level-line k ends) place (now (draft .entry)) (now (draft .exit)) r ⌝ }
 {
-    let end = put_number(k as usize, SPACE, draft, place);
-    put_ends(report, draft, end)
+    let next = put_number(k as usize, SPACE, draft, place);
+    put_ends(ends, draft, next)
 }

@@ -1,20 +1,25 @@
 // The whole printed text for an input.
-use crate::input::Split;
-use crate::input::split_input;
+use crate::input::FILES_PLACE;
+use crate::input::LEVELS_PLACE;
+use crate::input::MOST_SHEET;
+use crate::input::MOST_TREE;
+use crate::input::TREE_LENGTH_PLACE;
+use crate::input::is_framed;
 use crate::levels::put_levels;
 use crate::line::put_header;
 use crate::line::put_input;
 use crate::line::put_refusal;
+use fields::fields::field16_at;
 use monitor::hand_in::Verdict;
 use monitor::hand_in::hand_in_sheet;
 use monitor::hand_in::hand_in_tree;
 use monitor::held::Standing;
 use monitor::judge::judge;
 use monitor::state::State;
-use tree_file::format::field_at;
 ghost use mathlib.Core.Path.{_≡_};
 ghost use Prim.Native.Nat.{_≤_};
 ghost use lib.ListN.{length};
+ghost use Rattle.printer.specs.Input.{most-tree, most-sheet};
 ghost use Rattle.printer.specs.Text.{most-text, text-of, whole-text};
 ghost use Rattle.printer.specs.Held.{held-text, sheet-text};
 ghost use Rattle.printer.specs.Printed.{answer-of, buffer-after, text-length};
@@ -38,9 +43,8 @@ fn put_held(state: State, tree_store: &[u8], sheet_store: &[u8], n: u32, draft: 
     let standing = judge(state, tree_store, sheet_store, n, n);
     match standing {
         Standing::Refused(refusal) => put_refusal(refusal, draft),
-        Standing::Ready(sizes) => {
-            let number = field_at(tree_store, 5);
-            let end = put_header(number, sizes.events, n, draft);
+        Standing::Ready(counts) => {
+            let end = put_header(counts.number, counts.events, n, draft);
             put_levels(state, tree_store, sheet_store, n, draft, end)
         }
     }
@@ -48,12 +52,12 @@ fn put_held(state: State, tree_store: &[u8], sheet_store: &[u8], n: u32, draft: 
 
 // Hands in the sheet, and puts the text.
 fn put_with_sheet(state: State, tree_store: &[u8], sheet: &[u8], n: u32, draft: &mut [u8]) -> usize
-    requires { ⌜ length (now sheet) ≤ 17434 ⌝ }
+    requires { ⌜ length (now sheet) ≤ most-sheet ⌝ }
     requires { ⌜ most-text ≤ length (now draft) ⌝ }
     ensures { λ r. ⌜ Put (sheet-text state (now («tree_store» .entry)) (now (sheet .entry)) n)
         0 (now (draft .entry)) (now (draft .exit)) r ⌝ }
 {
-    let mut store = [0u8; 17434];
+    let mut store = [0u8; MOST_SHEET];
     let answer = hand_in_sheet(state, sheet, &mut store);
     let verdict = answer.verdict;
     if let Verdict::Refused(refusal) = verdict {
@@ -64,13 +68,13 @@ fn put_with_sheet(state: State, tree_store: &[u8], sheet: &[u8], n: u32, draft: 
 
 // Hands in the tree, then the sheet, and puts the text.
 fn put_with_both(tree: &[u8], sheet: &[u8], n: u32, draft: &mut [u8]) -> usize
-    requires { ⌜ length (now tree) ≤ 7175 ⌝ }
-    requires { ⌜ length (now sheet) ≤ 17434 ⌝ }
+    requires { ⌜ length (now tree) ≤ most-tree ⌝ }
+    requires { ⌜ length (now sheet) ≤ most-sheet ⌝ }
     requires { ⌜ most-text ≤ length (now draft) ⌝ }
     ensures { λ r. ⌜ Put (text-of (now (tree .entry)) (now (sheet .entry)) n)
         0 (now (draft .entry)) (now (draft .exit)) r ⌝ }
 {
-    let mut store = [0u8; 7175];
+    let mut store = [0u8; MOST_TREE];
     let nothing = State {
         tree_len: 0,
         sheet_len: 0,
@@ -88,12 +92,13 @@ fn put_text(input: &[u8], draft: &mut [u8]) -> usize
     requires { ⌜ most-text ≤ length (now draft) ⌝ }
     ensures { λ r. ⌜ Put (whole-text (now (input .entry))) 0 (now (draft .entry)) (now (draft .exit)) r ⌝ }
 {
-    let parts = split_input(input);
-    let Split::Whole(whole) = parts else {
+    if !is_framed(input) {
         return put_input(draft);
-    };
-    let end = whole.tree_end;
-    put_with_both(&input[6..end], &input[end..], whole.n, draft)
+    }
+    let n = field16_at(input, LEVELS_PLACE);
+    let tree_len = field16_at(input, TREE_LENGTH_PLACE);
+    let end = FILES_PLACE + tree_len;
+    put_with_both(&input[FILES_PLACE..end], &input[end..], n as u32, draft)
 }
 
 // Prints the levels of an input into a lent buffer.

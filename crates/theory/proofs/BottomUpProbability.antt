@@ -1,4 +1,4 @@
--- The bottom-up method stays within the probabilities. Assumes nothing.
+-- The bottom-up method stays within the probabilities.
 use Prim.Native.Nat.{ℕ}
 use mathlib.Core.List.{List, [], _∷_, map}
 use native.Mathlib.Nat.{le-refl, mul-le-mul, mul-pos, sub-le}

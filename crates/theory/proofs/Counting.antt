@@ -1,5 +1,5 @@
 -- The sum of v over the events of a tree, and the counting law: where no node is linked twice, the trees of the nodes
--- that no link names hold the basic events of the table, each once. Assumes nothing.
+-- that no link names hold the basic events of the table, each once.
 use Prim.Native.Nat.{ℕ, zero, suc, _+_, _≤_, _<_}
 use mathlib.Core.Path.{_≡_, refl, sym}
 use native.Mathlib.Nat.{add-zero, add-suc, add-assoc, le-refl}

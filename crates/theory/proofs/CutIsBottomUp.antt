@@ -1,5 +1,5 @@
 -- The alpha-cut that equation (6) of 004 gives a node from the events' alpha-cuts has as its ends the bottom-up
--- reckoning at all lower ends and at all upper ends. Assumes nothing.
+-- reckoning at all lower ends and at all upper ends.
 use Prim.Native.Nat.{ℕ}
 use mathlib.Core.Path.{_≡_, refl, ap, ap₂, _∙_}
 use mathlib.Core.Bool.{Bool, true, false, cond}
@@ -9,7 +9,7 @@ use Rattle.theory.specs.Fraction.{Fraction, _≼_, at-most, one, _⊗_, 
 use Rattle.theory.specs.FaultTree.{GateKind, all, any, Tree, Inputs, basic, gate, only, more, events, all-events}
 use Rattle.theory.specs.FaultTree.{Each}
 use Rattle.theory.specs.BottomUp.{product, joined, bottom-up, all-bottom-up}
-use Rattle.theory.specs.Interval.{Interval, Ordered, lesser, greater, times, minus, unit-interval}
+use Rattle.theory.specs.Interval.{Interval, Ordered, lesser, greater, times, minus, interval-one}
 use Rattle.theory.specs.Interval.{interval-product, interval-joined, interval-bottom-up, all-intervals}
 use Rattle.theory.proofs.FractionOrder.{at-most-refl, product-monotone, complement-antitone, one-minus}
 use Rattle.theory.proofs.Each.{All, all-map, each-left, each-right}
@@ -64,15 +64,15 @@ product-ordered x y hx hy = record {
 }
 
 -- the interval from 1 to 1 is one of probabilities
-unit-ordered : Ordered unit-interval
-unit-ordered = record {
+one-ordered : Ordered interval-one
+one-ordered = record {
   lower-probability = one-probability;
   upper-probability = one-probability;
   rising = at-most-refl one;
 }
 
 -- 1 minus an interval exchanges its ends
-minus-ends : (x : Interval) → minus unit-interval x ≡ between (complement (x .upper)) (complement (x .lower))
+minus-ends : (x : Interval) → minus interval-one x ≡ between (complement (x .upper)) (complement (x .lower))
 minus-ends x = ap₂ between (one-minus (x .upper)) (one-minus (x .lower))
 
 -- the exchanged ends are in order
@@ -98,7 +98,7 @@ uppers xs = map (λ x. x .upper) xs
 -- the product of a list of intervals: its ends are the products of the ends, and it is ordered
 product-ends : (xs : List Interval) → All-ordered xs
     → (interval-product xs ≡ between (product (lowers xs)) (product (uppers xs))) × Ordered (interval-product xs)
-product-ends [] h = (refl, unit-ordered)
+product-ends [] h = (refl, one-ordered)
 product-ends (x ∷ xs) h =
     let rest = product-ends xs (h .1) in
     let whole = times-ends x (interval-product xs) (h .0) (rest .1) in (
@@ -107,17 +107,17 @@ product-ends (x ∷ xs) h =
     )
 
 -- 1 minus each of a list of intervals are intervals of probabilities
-complements-ordered : (xs : List Interval) → All-ordered xs → All-ordered (map (minus unit-interval) xs)
+complements-ordered : (xs : List Interval) → All-ordered xs → All-ordered (map (minus interval-one) xs)
 complements-ordered xs h =
-    all-map Ordered Ordered (minus unit-interval) (λ x o. rw (minus-ends x) (complement-ordered x o)) xs h
+    all-map Ordered Ordered (minus interval-one) (λ x o. rw (minus-ends x) (complement-ordered x o)) xs h
 
 -- their lower ends are the complements of the upper ends
-complements-lower : (xs : List Interval) → lowers (map (minus unit-interval) xs) ≡ map complement (uppers xs)
+complements-lower : (xs : List Interval) → lowers (map (minus interval-one) xs) ≡ map complement (uppers xs)
 complements-lower [] = refl
 complements-lower (x ∷ xs) = ap₂ _∷_ (one-minus (x .upper)) (complements-lower xs)
 
 -- their upper ends are the complements of the lower ends
-complements-upper : (xs : List Interval) → uppers (map (minus unit-interval) xs) ≡ map complement (lowers xs)
+complements-upper : (xs : List Interval) → uppers (map (minus interval-one) xs) ≡ map complement (lowers xs)
 complements-upper [] = refl
 complements-upper (x ∷ xs) = ap₂ _∷_ (one-minus (x .lower)) (complements-upper xs)
 
@@ -126,7 +126,7 @@ joined-ends : (k : GateKind) (xs : List Interval) → All-ordered xs
     → (interval-joined k xs ≡ between (joined k (lowers xs)) (joined k (uppers xs))) × Ordered (interval-joined k xs)
 joined-ends all xs h = product-ends xs h
 joined-ends any xs h =
-    let others = map (minus unit-interval) xs in
+    let others = map (minus interval-one) xs in
     let inner = product-ends others (complements-ordered xs h) in
     let whole = minus-ends (interval-product others) in (
       whole ∙ ap (λ (y : Interval). between (complement (y .upper)) (complement (y .lower))) (inner .0)

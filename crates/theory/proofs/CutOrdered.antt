@@ -1,5 +1,5 @@
 -- The cut of a trapezoidal number is an interval of probabilities, and its ends are the mixtures of the numbers that
--- the code divides once. Assumes nothing.
+-- the code divides once.
 use Prim.Native.Nat.{ℕ, _+_, _-_, _*_, _≤_, _<_}
 use mathlib.Core.Path.{_≡_}
 use native.Mathlib.Nat.{le-trans, mul-pos, mul-le-mul-right, mul-le-mul-left, sub-add-cancel, sub-le}

@@ -1,4 +1,4 @@
--- The literal sum over cut sets (specs/Unreliability) is an expectation. Assumes nothing.
+-- The literal sum over cut sets (specs/Unreliability) is an expectation.
 use Prim.Native.Nat.{ℕ, _+_, _-_, _*_}
 use mathlib.Core.Path.{_≡_, refl, sym, ap, ap₂, _∙_}
 use mathlib.Core.Bool.{Bool, true, false, not, cond, _||_}

@@ -1,4 +1,4 @@
--- Lists without repeats, by membership and by how often a number stands in a list. Assumes nothing.
+-- Lists without repeats, by membership and by how often a number stands in a list.
 use Prim.Native.Nat.{ℕ, _+_, _≤_, _<_}
 use mathlib.Core.Path.{_≡_, refl, sym, ap, _∙_}
 use mathlib.Core.Bool.{Bool, true, false, cond, not, _||_, or-assoc}

@@ -1,5 +1,5 @@
 -- The tree of a node holds no event twice, and only events of the table; the root's tree holds them all. Each of these
--- is the law `worth-at-most` or `root-worth` at some v. Assumes nothing.
+-- is the law `worth-at-most` or `root-worth` at some v.
 use Prim.Native.Nat.{ℕ, zero, suc, _+_, _≤_, _<_}
 use mathlib.Core.Path.{_≡_, sym, _∙_}
 use mathlib.Core.Logic.{_≢_, _⊎_, inl, inr}

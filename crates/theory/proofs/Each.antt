@@ -1,5 +1,5 @@
 -- A property of each member of a list. Of a list of events: of each event of its parts, of whatever it contains, and of
--- each event at or beneath a node. Assumes nothing.
+-- each event at or beneath a node.
 use Prim.Native.Nat.{ℕ}
 use mathlib.Core.Path.{_≡_, refl}
 use mathlib.Core.Bool.{Bool, true, false, _||_}

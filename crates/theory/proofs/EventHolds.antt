@@ -1,4 +1,4 @@
--- A listed event fails with its own probability, however many others are listed. Assumes nothing.
+-- A listed event fails with its own probability, however many others are listed.
 use Prim.Native.Nat.{ℕ, _*_}
 use mathlib.Core.Path.{_≡_, refl, ap, _∙_}
 use mathlib.Core.Bool.{Bool, true, false, _||_}

@@ -1,4 +1,4 @@
--- P1 to P12 of document 01, computed from the definitions. Assumes nothing.
+-- P1 to P12 of document 01, computed from the definitions.
 use mathlib.Core.Path.{_≡_, refl}
 use mathlib.Core.List.{map}
 use Rattle.theory.specs.Trapezoid.{cut}

@@ -1,5 +1,5 @@
 -- The expectation of a function of event sets, over independent events: of sums, of constants, of functions that ignore
--- an event. Assumes nothing.
+-- an event.
 use Prim.Native.Nat.{ℕ, _+_, _-_, _*_, _<_}
 use mathlib.Core.Path.{_≡_, refl, sym, ap, ap₂, _∙_, fun-ext}
 use mathlib.Core.Bool.{Bool, true, false, not}

@@ -1,4 +1,4 @@
--- An expectation rises with the function, and that of a rising function with every probability. Assumes nothing.
+-- An expectation rises with the function, and that of a rising function with every probability.
 use Prim.Native.Nat.{ℕ, _+_, _-_, _*_, _≤_}
 use mathlib.Core.Path.{_≡_, ap}
 use mathlib.Core.List.{List, [], _∷_}

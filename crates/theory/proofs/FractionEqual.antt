@@ -1,4 +1,4 @@
--- Products of fractions regrouped, and what equal fractions have in common. Assumes nothing.
+-- Products of fractions regrouped, and what equal fractions have in common.
 use Prim.Native.Nat.{ℕ, _*_, _<_}
 use native.Mathlib.Nat.{mul-assoc, mul-one, one-mul}
 use native.Mathlib.Nat.{mul-lt-mul-of-pos-right, lt-of-mul-lt-mul-right, eq-of-mul-eq-mul-right}

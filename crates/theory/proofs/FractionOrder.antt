@@ -1,5 +1,5 @@
 -- The order of fractions by crosswise products: transitive over a denominator above 0, and how products, complements
--- and equal fractions stand in it. Assumes nothing.
+-- and equal fractions stand in it.
 use Prim.Native.Nat.{ℕ, _+_, _-_, _*_, _≤_, _<_}
 use mathlib.Core.Path.{_≡_, ap, ap₂}
 use native.Mathlib.Nat.{mul-le-mul, mul-le-mul-right, le-of-mul-le-mul-right, sub-add-cancel, mul-one}

@@ -1,5 +1,5 @@
 -- Two numbers at most A times d apart, with the mark that says whether they are equal. Rounding makes such a gap; gaps
--- add up along a chain, are scaled and turned over. Assumes nothing.
+-- add up along a chain, are scaled and turned over.
 use Prim.Native.Nat.{ℕ, _+_, _-_, _*_, _≤_, _<_}
 use native.Mathlib.Nat.{mul-le-mul-left, mul-le-mul-right, mul-lt-mul-of-pos-left, mul-lt-mul-of-pos-right}
 use native.Mathlib.Nat.{le-of-mul-le-mul-left, lt-of-mul-lt-mul-left, eq-of-mul-eq-mul-left}

@@ -1,4 +1,4 @@
--- The products of two pairs of numbers with gaps have a gap, and the allowances add up. Assumes nothing.
+-- The products of two pairs of numbers with gaps have a gap, and the allowances add up.
 use Prim.Native.Nat.{ℕ, zero, suc, _+_, _*_, _≤_, _<_}
 use native.Mathlib.Nat.{mul-le-mul, mul-le-mul-left, mul-le-mul-right, mul-lt-mul-of-pos-left, mul-lt-mul-of-pos-right}
 use native.Mathlib.Nat.{mul-pos, zero-mul}

@@ -1,22 +1,20 @@
 -- A node's rounded end, input by input over stored ends, is the fold that a loop over a gate's links computes.
--- Assumes nothing.
 use Prim.Native.Nat.{ℕ, zero, suc, _+_, _≤_, _<_}
 use mathlib.Core.Path.{_≡_, refl, sym, ap, ap₂}
 use mathlib.Core.List.{List, [], _∷_, map}
 use native.Mathlib.Nat.{add-zero, add-suc, zero-add}
 use native.Mathlib.Omega.{arith}
-use Rattle.theory.specs.Fraction.{Fraction}
 use Rattle.theory.specs.FaultTree.{GateKind, all, any, Tree}
-use Rattle.theory.specs.Rounding.{Direction, End, start, cut-end, run, gate-end}
-use Rattle.theory.specs.Rounding.{rounded-end, all-ends}
+use Rattle.theory.specs.Rounding.{Direction, End, start, run, gate-end}
+use Rattle.theory.specs.Rounding.{evaluated, all-evaluated}
 use Rattle.theory.specs.GateFold.{seen, turned, folded}
 use Rattle.theory.specs.NodeTable.{Node, event, joint, Table, inputs, build, tree-of, Has-link, Owns, Ranked}
 use Rattle.theory.proofs.TreeOf.{tree-unfolds}
 
--- a node's end by the stored ends of the nodes
-abbrev pub node-end : ℕ → Direction → (ℕ → Fraction) → (ℕ → End) → (ℕ → ℕ) → Node → End
-node-end U w p store link (event e) = cut-end U w (p e)
-node-end U w p store link (joint k a n) =
+-- a node's end: a basic event's own, a gate's by the stored ends of the nodes that its links name
+abbrev pub end-by-inputs : ℕ → Direction → (ℕ → End) → (ℕ → End) → (ℕ → ℕ) → Node → End
+end-by-inputs U w leaf store link (event e) = leaf e
+end-by-inputs U w leaf store link (joint k a n) =
     seen k U (folded U (turned k w) (λ j. seen k U (store (link j))) a (suc n))
 
 -- to map by what changes nothing changes nothing
@@ -36,12 +34,12 @@ listed ends a zero = ends a ∷ []
 listed ends a (suc n) = ends a ∷ listed ends (suc a) n
 
 -- the ends of a gate's inputs, each passed through f
-inputs-listed : (U : ℕ) (w : Direction) (p : ℕ → Fraction) (f : End → End) (ends : ℕ → End) (tree : ℕ → Tree)
-    (link : ℕ → ℕ) (a n : ℕ) → ((j : ℕ) → a ≤ j → j ≤ a + n → f (rounded-end U w p (tree (link j))) ≡ ends j) →
-    map f (all-ends U w p (inputs tree link a n)) ≡ listed ends a n
-inputs-listed U w p f ends tree link a zero h = ap (λ x. x ∷ []) (h a (omega arith) (omega arith))
-inputs-listed U w p f ends tree link a (suc n) h = ap₂ _∷_ (h a (omega arith) (omega arith))
-    (inputs-listed U w p f ends tree link (suc a) n (λ j l u. h j (omega arith) (omega arith)))
+inputs-listed : (U : ℕ) (w : Direction) (leaf : ℕ → End) (f : End → End) (ends : ℕ → End) (tree : ℕ → Tree)
+    (link : ℕ → ℕ) (a n : ℕ) → ((j : ℕ) → a ≤ j → j ≤ a + n → f (evaluated U w leaf (tree (link j))) ≡ ends j) →
+    map f (all-evaluated U w leaf (inputs tree link a n)) ≡ listed ends a n
+inputs-listed U w leaf f ends tree link a zero h = ap (λ x. x ∷ []) (h a (omega arith) (omega arith))
+inputs-listed U w leaf f ends tree link a (suc n) h = ap₂ _∷_ (h a (omega arith) (omega arith))
+    (inputs-listed U w leaf f ends tree link (suc a) n (λ j l u. h j (omega arith) (omega arith)))
 
 -- to run over the ends from link a + m on goes on where the first m links ended
 run-goes-on : (U : ℕ) (w : Direction) (ends : ℕ → End) (a m n : ℕ) →
@@ -57,35 +55,28 @@ run-is-fold : (U : ℕ) (w : Direction) (ends : ℕ → End) (a n : ℕ) →
 run-is-fold U w ends a n = rw (add-zero a, zero-add n) at (run-goes-on U w ends a 0 n)
 
 -- the rounded end of a node that is built from trees, where their ends are stored
-pub build-end : (U : ℕ) (w : Direction) (p : ℕ → Fraction) (store : ℕ → End) (tree : ℕ → Tree) (link : ℕ → ℕ)
-    (node : Node) → ((j : ℕ) → Has-link node j → store (link j) ≡ rounded-end U w p (tree (link j))) →
-    rounded-end U w p (build tree link node) ≡ node-end U w p store link node
-build-end U w p store tree link (event e) h = refl
-build-end U w p store tree link (joint k a n) h =
+pub build-end : (U : ℕ) (w : Direction) (leaf : ℕ → End) (store : ℕ → End) (tree : ℕ → Tree) (link : ℕ → ℕ)
+    (node : Node) → ((j : ℕ) → Has-link node j → store (link j) ≡ evaluated U w leaf (tree (link j))) →
+    evaluated U w leaf (build tree link node) ≡ end-by-inputs U w leaf store link node
+build-end U w leaf store tree link (event e) h = refl
+build-end U w leaf store tree link (joint k a n) h =
     rw (
-      gate-end-seen U w k (all-ends U w p (inputs tree link a n)),
-      inputs-listed U w p (seen k U) ends tree link a n same,
+      gate-end-seen U w k (all-evaluated U w leaf (inputs tree link a n)),
+      inputs-listed U w leaf (seen k U) ends tree link a n same,
     )
     (ap (seen k U) (run-is-fold U (turned k w) ends a n))
   where
     ends : ℕ → End
     ends j = seen k U (store (link j))
 
-    same : (j : ℕ) → a ≤ j → j ≤ a + n → seen k U (rounded-end U w p (tree (link j))) ≡ ends j
+    same : (j : ℕ) → a ≤ j → j ≤ a + n → seen k U (evaluated U w leaf (tree (link j))) ≡ ends j
     same j l u = ap (seen k U) (sym (h j (l, u)))
 
-module _ (table : Table) (rank : ℕ → ℕ) (ranked : Ranked table rank) (U : ℕ) (w : Direction) (p : ℕ → Fraction)
+module _ (table : Table) (rank : ℕ → ℕ) (ranked : Ranked table rank) (U : ℕ) (w : Direction) (leaf : ℕ → End)
     (store : ℕ → End) where
   -- a node's rounded end, by the stored ends of the nodes that its links name
   pub end-by-links : (i : ℕ) → i < table .size →
-      ((j : ℕ) → Owns table i j → store (table .link j) ≡ rounded-end U w p (tree-of table (table .link j))) →
-      rounded-end U w p (tree-of table i) ≡ node-end U w p store (table .link) (table .node i)
+      ((j : ℕ) → Owns table i j → store (table .link j) ≡ evaluated U w leaf (tree-of table (table .link j))) →
+      evaluated U w leaf (tree-of table i) ≡ end-by-inputs U w leaf store (table .link) (table .node i)
   end-by-links i l h =
-      rw (tree-unfolds table rank ranked i l) (build-end U w p store (tree-of table) (table .link) (table .node i) h)
-
-  -- so it is enough that the nodes of lower rank are stored
-  pub end-by-rank : (i : ℕ) → i < table .size →
-      ((m : ℕ) → m < table .size → rank m < rank i → store m ≡ rounded-end U w p (tree-of table m)) →
-      rounded-end U w p (tree-of table i) ≡ node-end U w p store (table .link) (table .node i)
-  end-by-rank i l h = end-by-links i l
-      (λ j o. h (table .link j) (ranked .link-inside i j l o) (ranked .rank-falls i j l o))
+      rw (tree-unfolds table rank ranked i l) (build-end U w leaf store (tree-of table) (table .link) (table .node i) h)

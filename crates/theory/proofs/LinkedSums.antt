@@ -1,5 +1,5 @@
 -- Where no two links name the same number, a sum over the numbers below n is the sum over the links and the sum over
--- what no link names. Assumes nothing.
+-- what no link names.
 use Prim.Native.Nat.{ℕ, zero, suc, _+_, _<_}
 use mathlib.Core.Path.{_≡_, refl, sym, _∙_}
 use mathlib.Core.Logic.{_≢_, _⊎_, inl, inr}

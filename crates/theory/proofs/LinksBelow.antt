@@ -1,15 +1,12 @@
 -- Tables whose links lead to lower nodes, as in the tree file of version 1 (01, "The tree file"): a node's rank is its
--- number, the last node is the root, and nodes are evaluated in rising order. Assumes nothing.
+-- number, and the last node is the root.
 use Prim.Native.Nat.{ℕ, suc, _<_}
 use mathlib.Core.Path.{_≡_}
 use native.Mathlib.Omega.{arith}
-use Rattle.theory.specs.Fraction.{Fraction}
-use Rattle.theory.specs.Rounding.{Direction, End, rounded-end}
-use Rattle.theory.specs.NodeTable.{Table, tree-of, link-count, Owns, Numbered, Ranked, Linked-once, Others-linked}
+use Rattle.theory.specs.NodeTable.{Table, link-count, Owns, Numbered, Ranked, Linked-once, Others-linked}
 use Rattle.theory.proofs.LinkedSums.{Not-linked}
 use Rattle.theory.proofs.Counting.{Owner, gate-of}
 use Rattle.theory.proofs.OneRoot.{others-linked}
-use Rattle.theory.proofs.GateFold.{node-end, end-by-rank}
 
 -- every link of a gate names a node below the gate
 abbrev pub Links-below : Table → Type 0
@@ -24,13 +21,6 @@ ranked-by-number table below = record {
 }
 
 module _ (table : Table) (below : Links-below table) where
-  -- a node's rounded end, where the ends of all nodes before it are stored
-  pub end-by-earlier : (U : ℕ) (w : Direction) (p : ℕ → Fraction) (store : ℕ → End) (i : ℕ) → i < table .size →
-      ((m : ℕ) → m < i → store m ≡ rounded-end U w p (tree-of table m)) →
-      rounded-end U w p (tree-of table i) ≡ node-end U w p store (table .link) (table .node i)
-  end-by-earlier U w p store i l h =
-      end-by-rank table (λ i. i) (ranked-by-number table below) U w p store i l (λ m k earlier. h m earlier)
-
   -- no link names the last node
   pub last-not-linked : Numbered table → (root : ℕ) → table .size ≡ suc root →
       Not-linked (table .link) (link-count table) root

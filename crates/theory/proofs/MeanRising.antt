@@ -1,5 +1,5 @@
 -- An expert who said nothing has no part in the mean, and the mean is ordered as a ≤ b = c ≤ d ≤ 1 wherever somebody
--- with a score spoke. Assumes nothing.
+-- with a score spoke.
 use Prim.Native.Nat.{ℕ, zero-le, _*_, _≤_, _<_}
 use mathlib.Core.Path.{_≡_, refl}
 use mathlib.Core.List.{List, [], _∷_}

@@ -1,4 +1,4 @@
--- What the kit's library should have had: tests joined by && and ||, and laws of plain numbers. Assumes nothing.
+-- What the kit's library should have had: tests joined by && and ||, and laws of plain numbers.
 use Prim.Native.Nat.{ℕ, zero, suc, _+_, _-_, _*_, _<_}
 use native.Mathlib.Nat.{zero-mul, suc-mul, mul-comm, mul-sub}
 use native.Mathlib.Omega.{arith}

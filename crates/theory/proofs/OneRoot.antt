@@ -1,4 +1,4 @@
--- With one link fewer than nodes and no node linked twice, a node that no link names is the only one. Assumes nothing.
+-- With one link fewer than nodes and no node linked twice, a node that no link names is the only one.
 use Prim.Native.Nat.{ℕ, suc, _+_, _<_}
 use mathlib.Core.Path.{_≡_}
 use mathlib.Core.Logic.{_≢_, _⊎_, inl, inr}

@@ -1,5 +1,4 @@
 -- A gap in a direction: v stands in for x, below it or above it. Each law of Gap.antt once for both directions.
--- Assumes nothing.
 use Prim.Native.Nat.{ℕ, _+_, _-_, _*_, _≤_, _<_}
 use native.Mathlib.Nat.{add-comm}
 use mathlib.Core.Bool.{Bool, true, _&&_, _||_, and-comm}

@@ -1,9 +1,9 @@
 -- The main theorems on a tree: what is promised of each reported end (demand 3), that the exact ends are the ends of
--- the alpha-cut of 004 (demand 2), and that the top probability lies in the reported interval. Assumes nothing.
-use Prim.Native.Nat.{ℕ, _≤_, _<_}
+-- the alpha-cut of 004 (demand 2), and that the top probability lies in the reported interval.
+use Prim.Native.Nat.{ℕ, _-_, _*_, _≤_, _<_}
 use mathlib.Core.Path.{sym}
 use mathlib.Core.Bool.{Bool, true, false, not}
-use native.Mathlib.Nat.{le-refl, le-of-lt, le-of-eq}
+use native.Mathlib.Nat.{le-of-lt, le-of-eq}
 use lib.Dec.{T}
 use lib.ListN.{length}
 use Rattle.theory.specs.Fraction.{Fraction, Probability, _≼_, _≺_, _≈_, in-units}
@@ -18,7 +18,7 @@ use Rattle.theory.proofs.FractionOrder.{at-most-trans}
 use Rattle.theory.proofs.BottomUpProbability.{bottom-up-probability}
 use Rattle.theory.proofs.Each.{each-map, each-beneath}
 use Rattle.theory.proofs.Expectation.{Probable}
-use Rattle.theory.proofs.UnreliabilityIsBottomUp.{unreliability-is-bottom-up, distinct-independent}
+use Rattle.theory.proofs.UnreliabilityIsBottomUp.{unreliability-is-bottom-up, distinct-repeats-certain}
 use Rattle.theory.proofs.UnreliabilityRises.{unreliability-probability, between-exact-ends}
 use Rattle.theory.proofs.CutIsBottomUp.{cut-is-bottom-up}
 use Rattle.theory.proofs.RoundedTree.{rounded-end-gap}
@@ -30,9 +30,9 @@ end-probability down x h = h .lower-probability
 end-probability up x h = h .upper-probability
 
 -- a promised end is on the safe side
-pub promised-safe : (U : ℕ) (w : Direction) (E : ℕ) (r : End) (x : Fraction) → Promised U w E r x
+pub promised-safe : (U : ℕ) (w : Direction) (A : ℕ) (r : End) (x : Fraction) → Promised U w A r x
     → under w (in-units U (r .value)) x ≼ over w (in-units U (r .value)) x
-promised-safe U w E r x h = go w (r .exact) (h .marked) (h .unmarked)
+promised-safe U w A r x h = go w (r .exact) (h .marked) (h .unmarked)
   where
     v : Fraction
     v = in-units U (r .value)
@@ -59,21 +59,21 @@ module _ (cuts : ℕ → Interval) (t : Tree) (ordered : Each (λ e. Ordered (cu
     -- a node's exact end is the bottom-up reckoning at the events' ends
     exact-end-is-bottom-up : (w : Direction) → exact-end w cuts t ≈ bottom-up (λ e. end-of w (cuts e)) t
     exact-end-is-bottom-up w =
-        unreliability-is-bottom-up _ t (ends-probable w) (distinct-independent t (λ e. end-of w (cuts e)) distinct)
+        unreliability-is-bottom-up _ t (ends-probable w) (distinct-repeats-certain t (λ e. end-of w (cuts e)) distinct)
 
     -- demand 2: the exact ends are the ends of the alpha-cut that 004 gives the node
     pub exact-end-is-cut : (w : Direction) → exact-end w cuts t ≈ end-of w (interval-bottom-up cuts t)
     exact-end-is-cut down = rw (cut-is-bottom-up cuts t ordered) (exact-end-is-bottom-up down)
     exact-end-is-cut up = rw (cut-is-bottom-up cuts t ordered) (exact-end-is-bottom-up up)
 
-    -- demand 3: every reported end keeps its promise, for as many events as stand in the tree and for more
-    pub reported-promised : (U : ℕ) → 0 < U → (w : Direction) (E : ℕ) → length (events t) ≤ E
-        → Promised U w E (reported U w cuts t) (exact-end w cuts t)
-    reported-promised U pos w E few =
+    -- demand 3: every reported end keeps its promise, for 2 × E − 1 units where E events stand in the tree
+    pub reported-promised : (U : ℕ) → 0 < U → (w : Direction)
+        → Promised U w (2 * length (events t) - 1) (reported U w cuts t) (exact-end w cuts t)
+    reported-promised U pos w =
         let p : ℕ → Fraction = λ e. end-of w (cuts e) in
-        promised-respects U w E (reported U w cuts t) (bottom-up p t) (exact-end w cuts t) pos
+        promised-respects U w _ (reported U w cuts t) (bottom-up p t) (exact-end w cuts t) pos
         (bottom-up-probability t p (ends-probable w) .positive) (exact-end-probability w .positive)
-        (sym (exact-end-is-bottom-up w)) (end-promised U pos w p t (ends-probable w) E few)
+        (sym (exact-end-is-bottom-up w)) (end-promised U pos w p t (ends-probable w))
 
     -- demand 3: whatever fractions the events have inside their cuts, the top probability lies in the reported interval
     pub top-contained : (U : ℕ) → 0 < U → (p : ℕ → Fraction) → Choice cuts t p
@@ -82,7 +82,7 @@ module _ (cuts : ℕ → Interval) (t : Tree) (ordered : Each (λ e. Ordered (cu
     top-contained U pos p chosen =
         let inner = between-exact-ends cuts t p (each-beneath _ t ordered) chosen in
         let safe : (w : Direction) → _ = λ w. promised-safe U w _ (reported U w cuts t) (exact-end w cuts t)
-        (reported-promised U pos w (length (events t)) (le-refl _)) in (
+        (reported-promised U pos w) in (
           at-most-trans (in-units U (reported U down cuts t .value)) (exact-end down cuts t) (unreliability p t)
               (exact-end-probability down .positive) (safe down) (inner .0),
           at-most-trans (unreliability p t) (exact-end up cuts t) (in-units U (reported U up cuts t .value))

@@ -1,5 +1,5 @@
 -- The gap between a rounded end and the exact fraction that it stands in for, by each definition that builds an end: no
--- other file opens `start`, `step`, `end-complement` or `cut-end`. Assumes nothing.
+-- other file opens `start`, `step`, `end-complement` or `cut-end`.
 use Prim.Native.Nat.{ℕ, _+_, _-_, _*_, _%_, _≤_, _<_}
 use native.Mathlib.Nat.{mul-le-mul, mul-le-mul-right, mul-pos, zero-mul, mul-zero, mul-comm, add-comm}
 use native.Mathlib.Omega.{arith}

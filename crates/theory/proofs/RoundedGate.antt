@@ -1,5 +1,5 @@
 -- The gap of a gate's end by those of its inputs' ends. What each input is off, and 1 more for the rounding at its
--- step, add up; the first step rounds nothing. Assumes nothing.
+-- step, add up; the first step rounds nothing.
 use Prim.Native.Nat.{ℕ, _+_, _-_, _<_}
 use native.Mathlib.Omega.{arith}
 use mathlib.Core.Path.{_≡_, refl, sym, _∙_}

@@ -1,8 +1,8 @@
 -- What rounding means: the nearest whole number on the safe side. It is monotone, exact on whole numbers, and the same
--- however the fraction is written. Assumes nothing.
+-- however the fraction is written.
 use Prim.Native.Nat.{ℕ, zero, suc, _+_, _*_, _/_, _%_, _≤_, _<_}
 use native.Mathlib.Nat.{div-add-mod', mod-lt, mul-div-mul-right, lt-of-mul-lt-mul-right, le-of-mul-le-mul-right}
-use native.Mathlib.Nat.{mul-le-mul-right, mul-pos, add-zero, zero-mul, mul-suc, add-suc, zero-mod, mul-mod-right}
+use native.Mathlib.Nat.{mul-le-mul-right, mul-pos, zero-mul, mul-suc, add-suc, zero-mod, mul-mod-right}
 use native.Mathlib.Nat.{le-refl, le-trans, le-antisymm}
 use native.Mathlib.Omega.{arith}
 use mathlib.Core.Path.{_≡_, refl, ap, sym, _∙_}
@@ -142,20 +142,6 @@ carry-whole k b = ap carry (mul-mod-right b k)
 pub nothing-dropped-zero : (a b : ℕ) → a ≡ 0 → T (nothing-dropped a b)
 unfolding nothing-dropped
 nothing-dropped-zero a b z = rw (z, zero-mod b) tt
-
--- without a remainder rounding up adds nothing
-pub rounded-up-whole : (a b : ℕ) → a % b ≡ 0 → a / b ≡ rounded up a b
-unfolding rounded
-rounded-up-whole a b h = sym (add-zero (a / b)) ∙ ap (λ r. a / b + carry r) (sym h)
-
--- with a remainder it adds 1
-pub rounded-up-rest : (a b : ℕ) → (a % b ≡ 0 → ⊥) → a / b + 1 ≡ rounded up a b
-unfolding rounded
-rounded-up-rest a b h = go (a % b) h
-  where
-    go : (r : ℕ) → (r ≡ 0 → ⊥) → a / b + 1 ≡ a / b + carry r
-    go zero h = absurd (h refl)
-    go (suc r) h = refl
 
 -- nothing is dropped just where there is no remainder
 pub no-remainder : (a b : ℕ) → eqb (a % b) 0 ≡ nothing-dropped a b

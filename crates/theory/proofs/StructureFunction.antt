@@ -1,5 +1,4 @@
 -- The structure function depends on the events of its tree alone, and rises with every further failed event.
--- Assumes nothing.
 use Prim.Native.Nat.{ℕ, zero-le, _≤_}
 use mathlib.Core.Path.{_≡_, ap, ap₂}
 use mathlib.Core.Bool.{Bool, true, false, _||_}

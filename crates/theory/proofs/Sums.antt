@@ -1,4 +1,4 @@
--- Sums of v, over the numbers of a list and over the numbers below n. Assumes nothing.
+-- Sums of v, over the numbers of a list and over the numbers below n.
 use Prim.Native.Nat.{ℕ, zero, suc, _+_, _≤_, _<_}
 use mathlib.Core.Path.{_≡_, refl}
 use mathlib.Core.Logic.{_≢_}

@@ -1,5 +1,5 @@
--- A test holds with a probability: its negation, the conjunction of independent tests, a list of tests, and the verdict
--- of a gate over them. Assumes nothing.
+-- A test holds with a probability: its negation, the conjunction of separated tests, a list of tests, and the verdict
+-- of a gate over them.
 use Prim.Native.Nat.{ℕ, _+_, _-_, _*_, _<_}
 use mathlib.Core.Path.{_≡_, refl, sym, ap, ap₂, _∙_, fun-ext}
 use mathlib.Core.Bool.{Bool, true, false, not, _&&_, _||_}
@@ -53,7 +53,7 @@ bit-and : (a b : Bool) → bit (a && b) ≡ bit a * bit b
 bit-and true b = sym (one-mul (bit b))
 bit-and false b = sym (zero-mul (bit b))
 
--- two independent tests hold together with the product of their probabilities
+-- two separated tests hold together with the product of their probabilities
 holds-and : (p : ℕ → Fraction) (es : List ℕ) (f g : EventSet → Bool) (x y : Fraction)
     → Each (Probable p) es → Each (λ e. Separated (p e) (Ignores e f) (Ignores e g)) es
     → Holds p es f x → Holds p es g y → Holds p es (λ s. f s && g s) (x ⊗ y)
@@ -72,7 +72,7 @@ holds-and p es f g x y h k hf hg =
 abbrev pub All-ignore : ℕ → List (EventSet → Bool) → Type 0
 All-ignore e fs = All (λ f. Ignores e f) fs
 
--- at each event a test is independent of those after it
+-- each event separates a test from those after it
 abbrev pub All-separated : (ℕ → Fraction) → List ℕ → List (EventSet → Bool) → Type 0
 All-separated p es [] = Unit {0}
 All-separated p es (f ∷ fs) = Each (λ e. Separated (p e) (Ignores e f) (All-ignore e fs)) es × All-separated p es fs
@@ -93,7 +93,7 @@ every-ignores : (e : ℕ) (fs : List (EventSet → Bool)) → All-ignore e fs �
 every-ignores e [] h s = refl
 every-ignores e (f ∷ fs) h s = ap₂ _&&_ (h .0 s) (every-ignores e fs (h .1) s)
 
--- independent tests all hold with the product of their probabilities
+-- separated tests all hold with the product of their probabilities
 every-holds : (p : ℕ → Fraction) (es : List ℕ) (fs : List (EventSet → Bool)) (xs : List Fraction)
     → Each (Probable p) es → All-separated p es fs → All-hold p es fs xs
     → Holds p es (λ s. every (values fs s)) (product xs)
@@ -113,7 +113,7 @@ negated fs = map (λ f s. not (f s)) fs
 negated-ignore : (e : ℕ) (fs : List (EventSet → Bool)) → All-ignore e fs → All-ignore e (negated fs)
 negated-ignore e fs h = all-map _ _ (λ f s. not (f s)) (λ f i s. ap not (i s)) fs h
 
--- negated tests are independent where the tests are
+-- negated tests are separated where the tests are
 negated-separated : (p : ℕ → Fraction) (es : List ℕ) (fs : List (EventSet → Bool))
     → All-separated p es fs → All-separated p es (negated fs)
 negated-separated p es [] h = tt
@@ -136,7 +136,7 @@ some-by-not : (fs : List (EventSet → Bool)) (s : EventSet) → not (every (val
 some-by-not [] s = refl
 some-by-not (f ∷ fs) s = not-and (f s) (every (values (negated fs) s)) ∙ ap (_||_ (f s)) (some-by-not fs s)
 
--- a gate over independent inputs fails with the probability that `joined` gives
+-- a gate over separated inputs fails with the probability that `joined` gives
 pub verdict-holds : (k : GateKind) (p : ℕ → Fraction) (es : List ℕ) (fs : List (EventSet → Bool)) (xs : List Fraction)
     → Each (Probable p) es → All-probable xs → All-separated p es fs → All-hold p es fs xs
     → Holds p es (λ s. verdict k (values fs s)) (joined k xs)

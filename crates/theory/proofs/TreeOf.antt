@@ -1,5 +1,5 @@
 -- The tree of a node is built from the trees that its links name, wherever links lead to a lower rank. Nothing else
--- opens `tree-of`. Assumes nothing.
+-- opens `tree-of`.
 use Prim.Native.Nat.{ℕ, zero, suc, _+_, _≤_, _<_}
 use mathlib.Core.Path.{_≡_, refl, ap, ap₂}
 use native.Mathlib.Omega.{arith}

@@ -1,6 +1,6 @@
 -- The unreliability, the sum over all cut sets, is what the bottom-up method reckons (demand 2), for trees in which an
 -- event that stands under two inputs of one gate has the probability 0 or 1. Trees with distinct events meet that
--- outright. Assumes nothing.
+-- outright.
 use Prim.Native.Nat.{ℕ}
 use mathlib.Core.Path.{_≡_, refl, ap}
 use mathlib.Core.Bool.{Bool, true, false}
@@ -29,15 +29,15 @@ Settled x = (x .num ≡ 0) ⊎ (x .num ≡ x .den)
 
 -- an event that stands under two inputs of a gate has the probability 0 or 1
 abbrev mutual
-  pub Independent : (ℕ → Fraction) → Tree → Type 0
-  Independent p (basic e) = Unit {0}
-  Independent p (gate k ts) = Independent-inputs p ts
+  pub Repeats-certain : (ℕ → Fraction) → Tree → Type 0
+  Repeats-certain p (basic e) = Unit {0}
+  Repeats-certain p (gate k ts) = Repeats-certain-inputs p ts
 
   -- so it is beneath each input, and between an input and those after it
-  pub Independent-inputs : (ℕ → Fraction) → Inputs → Type 0
-  Independent-inputs p (only t) = Independent p t
-  Independent-inputs p (more t ts) =
-      Independent p t × Independent-inputs p ts
+  pub Repeats-certain-inputs : (ℕ → Fraction) → Inputs → Type 0
+  Repeats-certain-inputs p (only t) = Repeats-certain p t
+  Repeats-certain-inputs p (more t ts) =
+      Repeats-certain p t × Repeats-certain-inputs p ts
       × ((e : ℕ) → T (contains e (events t)) → T (contains e (all-events ts)) → Settled (p e))
 
 -- the tests whether each input fails
@@ -57,20 +57,20 @@ tests-ignore (more t ts) e h =
     let (first, rest) = lacks-append e (events t) (all-events ts) h in
     (fails-ignores t e first, tests-ignore ts e rest)
 
--- at an event of probability 0 or 1 anything is independent
+-- an event of probability 0 or 1 separates anything
 settled-separated : {F G : Type 0} (x : Fraction) → Settled x → Separated x F G
 settled-separated x (inl z) = never z
 settled-separated x (inr z) = always z
 
--- two tests are independent at an event if the event, where it stands under both, has the probability 0 or 1
+-- an event separates two tests if the event, where it stands under both, has the probability 0 or 1
 separated-by : {F G : Type 0} (x : Fraction) (a b : Bool) → (a ≡ false → F) → (b ≡ false → G)
     → (T a → T b → Settled x) → Separated x F G
 separated-by x false b f g h = left (f refl)
 separated-by x true false f g h = right (g refl)
 separated-by x true true f g h = settled-separated x (h tt tt)
 
--- the tests of independent inputs are independent
-tests-separated : (ts : Inputs) (p : ℕ → Fraction) (es : List ℕ) → Independent-inputs p ts
+-- each event separates the tests of inputs whose repeated events are certain
+tests-separated : (ts : Inputs) (p : ℕ → Fraction) (es : List ℕ) → Repeats-certain-inputs p ts
     → All-separated p es (tests ts)
 tests-separated (only t) p es h = (each-of-all _ (λ e. right tt) es, tt)
 tests-separated (more t ts) p es h = (each-of-all _ at-event es, tests-separated ts p es (h .1))
@@ -82,7 +82,7 @@ tests-separated (more t ts) p es h = (each-of-all _ at-event es, tests-separated
 mutual
   -- every tree fails with the probability that the bottom-up method reckons
   tree-holds : (t : Tree) (p : ℕ → Fraction) (es : List ℕ) → Distinct es → Each (Probable p) es
-      → Each (λ e. T (contains e es)) (events t) → Each (Probable p) (events t) → Independent p t
+      → Each (λ e. T (contains e es)) (events t) → Each (Probable p) (events t) → Repeats-certain p t
       → Holds p es (fails t) (bottom-up p t)
   tree-holds (basic e) p es d h k q i = event-holds p e es d h (k .0)
   tree-holds (gate g ts) p es d h k q i =
@@ -92,7 +92,7 @@ mutual
 
   -- so do the inputs of a gate
   inputs-hold : (ts : Inputs) (p : ℕ → Fraction) (es : List ℕ) → Distinct es → Each (Probable p) es
-      → Each (λ e. T (contains e es)) (all-events ts) → Each (Probable p) (all-events ts) → Independent-inputs p ts
+      → Each (λ e. T (contains e es)) (all-events ts) → Each (Probable p) (all-events ts) → Repeats-certain-inputs p ts
       → All-hold p es (tests ts) (all-bottom-up p ts)
   inputs-hold (only t) p es d h k q i = (tree-holds t p es d h k q i, tt)
   inputs-hold (more t ts) p es d h k q i =
@@ -112,24 +112,24 @@ unreliability-expected p t =
     (sum-is-expectation p (beneath t) (fails t) (each-once-distinct (events t)))
 
 -- demand 2: the sum over all cut sets is the bottom-up reckoning, as a fraction
-pub unreliability-is-bottom-up : (p : ℕ → Fraction) (t : Tree) → Each (Probable p) (events t) → Independent p t
+pub unreliability-is-bottom-up : (p : ℕ → Fraction) (t : Tree) → Each (Probable p) (events t) → Repeats-certain p t
     → unreliability p t ≈ bottom-up p t
 unreliability-is-bottom-up p t h i =
     rw (unreliability-expected p t)
     (tree-holds t p (beneath t) (each-once-distinct (events t)) (each-beneath (Probable p) t h) (events-beneath t) h i)
 
 mutual
-  -- distinct events are independent
-  pub distinct-independent : (t : Tree) (p : ℕ → Fraction) → Distinct (events t) → Independent p t
-  distinct-independent (basic e) p d = tt
-  distinct-independent (gate g ts) p d = distinct-inputs-independent ts p d
+  -- distinct events repeat none
+  pub distinct-repeats-certain : (t : Tree) (p : ℕ → Fraction) → Distinct (events t) → Repeats-certain p t
+  distinct-repeats-certain (basic e) p d = tt
+  distinct-repeats-certain (gate g ts) p d = distinct-inputs-certain ts p d
 
-  -- so are those of a gate's inputs
-  distinct-inputs-independent : (ts : Inputs) (p : ℕ → Fraction) → Distinct (all-events ts) → Independent-inputs p ts
-  distinct-inputs-independent (only t) p d = distinct-independent t p d
-  distinct-inputs-independent (more t ts) p d =
+  -- so do those of a gate's inputs
+  distinct-inputs-certain : (ts : Inputs) (p : ℕ → Fraction) → Distinct (all-events ts) → Repeats-certain-inputs p ts
+  distinct-inputs-certain (only t) p d = distinct-repeats-certain t p d
+  distinct-inputs-certain (more t ts) p d =
       let apart = distinct-append (events t) (all-events ts) d in (
-        distinct-independent t p (apart .left),
-        distinct-inputs-independent ts p (apart .right),
+        distinct-repeats-certain t p (apart .left),
+        distinct-inputs-certain ts p (apart .right),
         λ e k l. absurd (T-not (contains e (all-events ts)) (apart .nothing-shared e k) l),
       )

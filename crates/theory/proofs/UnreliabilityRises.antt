@@ -1,5 +1,5 @@
 -- The unreliability is a probability and rises with every event's probability; so whatever fractions the events have
--- inside their cuts, it lies between the exact ends. Assumes nothing.
+-- inside their cuts, it lies between the exact ends.
 use Prim.Native.Nat.{ℕ, _*_, _≤_}
 use native.Mathlib.Nat.{le-trans, le-of-eq, le-add-right, mul-le-mul-right, le-of-mul-le-mul-right}
 use native.Mathlib.Omega.{arith}

@@ -17,12 +17,13 @@ numbers a b c d = record { den = billion; a = a; b = b; c = c; d = d }
 abbrev pub crisp : ℕ → Trapezoid
 crisp v = numbers v v v v
 
--- a value with its mark
-abbrev pub marked : ℕ → End
-marked v = record { value = v; exact = true }
+-- a value that is marked exact
+abbrev pub exactly : ℕ → End
+exactly v = record { value = v; exact = true }
 
-abbrev pub unmarked : ℕ → End
-unmarked v = record { value = v; exact = false }
+-- a value that is not
+abbrev pub about : ℕ → End
+about v = record { value = v; exact = false }
 
 -- event i has the number at place i of `entries`; the level is k of n
 pub record Example : Type 0 where
@@ -70,42 +71,42 @@ abbrev pub at-level : ℕ → Trapezoid → End → End → Example
 at-level k z l u = record { tree = single; entries = z ∷ []; k = k; n = 2; lower = l; upper = u }
 
 abbrev pub P1 : Example
-P1 = halfway (pair all) (crisp 1 ∷ crisp 1 ∷ []) (unmarked 0) (unmarked 1)
+P1 = halfway (pair all) (crisp 1 ∷ crisp 1 ∷ []) (about 0) (about 1)
 
 abbrev pub P2 : Example
-P2 = halfway (pair all) (crisp billion ∷ crisp 7 ∷ []) (marked 7) (marked 7)
+P2 = halfway (pair all) (crisp billion ∷ crisp 7 ∷ []) (exactly 7) (exactly 7)
 
 abbrev pub P3 : Example
-P3 = halfway (pair all) (crisp 500_000_000 ∷ crisp 3 ∷ []) (unmarked 1) (unmarked 2)
+P3 = halfway (pair all) (crisp 500_000_000 ∷ crisp 3 ∷ []) (about 1) (about 2)
 
 abbrev pub P4 : Example
-P4 = halfway (pair any) (crisp 1 ∷ crisp 1 ∷ []) (unmarked 1) (unmarked 2)
+P4 = halfway (pair any) (crisp 1 ∷ crisp 1 ∷ []) (about 1) (about 2)
 
 abbrev pub P5 : Example
-P5 = halfway single (spread ∷ []) (unmarked 0) (unmarked 2)
+P5 = halfway single (spread ∷ []) (about 0) (about 2)
 
 abbrev pub P6 : Example
-P6 = halfway (pair all) (spread ∷ crisp 0 ∷ []) (marked 0) (marked 0)
+P6 = halfway (pair all) (spread ∷ crisp 0 ∷ []) (exactly 0) (exactly 0)
 
 abbrev pub P7 : Example
-P7 = halfway (pair all) (spread ∷ crisp 1 ∷ []) (unmarked 0) (unmarked 1)
+P7 = halfway (pair all) (spread ∷ crisp 1 ∷ []) (about 0) (about 1)
 
 abbrev pub P8 : Example
 P8 =
-    halfway road-trip (crisp 800_000_000 ∷ crisp 100_000_000 ∷ crisp 400_000_000 ∷ []) (marked 368_000_000)
-    (marked 368_000_000)
+    halfway road-trip (crisp 800_000_000 ∷ crisp 100_000_000 ∷ crisp 400_000_000 ∷ []) (exactly 368_000_000)
+    (exactly 368_000_000)
 
 abbrev pub P9 : Example
-P9 = at-level 2 two-experts (unmarked 176_666_666) (unmarked 176_666_667)
+P9 = at-level 2 two-experts (about 176_666_666) (about 176_666_667)
 
 abbrev pub P10 : Example
-P10 = at-level 0 two-experts (unmarked 103_333_333) (marked 250_000_000)
+P10 = at-level 0 two-experts (about 103_333_333) (exactly 250_000_000)
 
 abbrev pub P11 : Example
-P11 = at-level 0 six-experts (unmarked 624_838_709) (unmarked 818_387_097)
+P11 = at-level 0 six-experts (about 624_838_709) (about 818_387_097)
 
 abbrev pub P12 : Example
-P12 = at-level 2 six-experts (unmarked 723_548_387) (unmarked 723_548_388)
+P12 = at-level 2 six-experts (about 723_548_387) (about 723_548_388)
 
 abbrev pub table : List Example
 table = P1 ∷ P2 ∷ P3 ∷ P4 ∷ P5 ∷ P6 ∷ P7 ∷ P8 ∷ P9 ∷ P10 ∷ P11 ∷ P12 ∷ []

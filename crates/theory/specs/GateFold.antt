@@ -1,5 +1,5 @@
 -- A gate's rounded end as one fold over its links, for contracts of code that folds: AND and OR see their inputs, turn
--- their direction and answer by the kind of the gate. Assumes nothing.
+-- their direction and answer by the kind of the gate.
 use Prim.Native.Nat.{ℕ, zero, suc, _+_}
 use Rattle.theory.specs.FaultTree.{GateKind, all, any}
 use Rattle.theory.specs.Rounding.{Direction, opposite, End, start, end-complement, step}

@@ -41,16 +41,16 @@ abbrev pub minus : Interval → Interval → Interval
 minus x y = record { lower = x .lower ⊖ y .upper; upper = x .upper ⊖ y .lower }
 
 -- from 1 to 1
-abbrev pub unit-interval : Interval
-unit-interval = record { lower = one; upper = one }
+abbrev pub interval-one : Interval
+interval-one = record { lower = one; upper = one }
 
 abbrev pub interval-product : List Interval → Interval
-interval-product [] = unit-interval
+interval-product [] = interval-one
 interval-product (x ∷ xs) = times x (interval-product xs)
 
 abbrev pub interval-joined : GateKind → List Interval → Interval
 interval-joined all xs = interval-product xs
-interval-joined any xs = minus unit-interval (interval-product (map (minus unit-interval) xs))
+interval-joined any xs = minus interval-one (interval-product (map (minus interval-one) xs))
 
 -- equation (6): the alpha-cut of a node by the alpha-cuts of the events
 abbrev mutual

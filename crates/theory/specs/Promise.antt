@@ -1,5 +1,5 @@
 -- What is promised of a reported end and of the top probability (demand 3).
-use Prim.Native.Nat.{ℕ, _-_, _*_}
+use Prim.Native.Nat.{ℕ}
 use mathlib.Core.Bool.{not}
 use lib.Dec.{T}
 use Rattle.theory.specs.Fraction.{Fraction, _≺_, _≈_, in-units, plus-units}
@@ -18,12 +18,12 @@ abbrev pub over : Direction → Fraction → Fraction → Fraction
 over down reported exact = exact
 over up reported exact = reported
 
--- The reported end r of the exact end x, in the direction w, for E basic events. `near` is written without a
--- difference: the one is below the other and 2 × E − 1 units more.
-pub record Promised (U : ℕ) (w : Direction) (E : ℕ) (r : End) (x : Fraction) : Type 0 where
+-- The reported end r of the exact end x, in the direction w, with an allowance of A units. `near` is written without a
+-- difference: the one is below the other and A units more.
+pub record Promised (U : ℕ) (w : Direction) (A : ℕ) (r : End) (x : Fraction) : Type 0 where
   pub marked : T (r .exact) → in-units U (r .value) ≈ x
   pub unmarked : T (not (r .exact)) → under w (in-units U (r .value)) x ≺ over w (in-units U (r .value)) x
-  pub near : over w (in-units U (r .value)) x ≺ plus-units U (2 * E - 1) (under w (in-units U (r .value)) x)
+  pub near : over w (in-units U (r .value)) x ≺ plus-units U A (under w (in-units U (r .value)) x)
 
 -- a node's exact end: its unreliability with every event at that end of its cut
 abbrev pub exact-end : Direction → (ℕ → Interval) → Tree → Fraction

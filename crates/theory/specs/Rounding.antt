@@ -34,6 +34,10 @@ pub record End : Type 0 where
   pub value : ℕ
   pub exact : Bool
 
+-- a / b rounded, exact where nothing was dropped
+abbrev pub divided : Direction → ℕ → ℕ → End
+divided w a b = record { value = rounded w a b; exact = nothing-dropped a b }
+
 -- the number that AND starts with
 unfoldable pub start : ℕ → End
 start U = record { value = U; exact = true }
@@ -48,14 +52,16 @@ true-zero r = r .exact && eqb (r .value) 0
 
 -- the running number r times a factor x
 unfoldable pub step : ℕ → Direction → End → End → End
-step U w r x = record {
-  value = rounded w (r .value * x .value) U;
-  exact = r .exact && x .exact && nothing-dropped (r .value * x .value) U || (true-zero r || true-zero x);
-}
+step U w r x =
+    let product : End = divided w (r .value * x .value) U in
+    record {
+      value = product .value;
+      exact = r .exact && x .exact && product .exact || (true-zero r || true-zero x);
+    }
 
 -- a basic event's end: the exact end f of its cut, rounded once
 unfoldable pub cut-end : ℕ → Direction → Fraction → End
-cut-end U w f = record { value = rounded w (f .num * U) (f .den); exact = nothing-dropped (f .num * U) (f .den) }
+cut-end U w f = divided w (f .num * U) (f .den)
 
 -- the running number after the inputs of a list, in their order
 abbrev pub run : ℕ → Direction → End → List End → End
@@ -67,15 +73,19 @@ abbrev pub gate-end : ℕ → Direction → GateKind → List End → End
 gate-end U w all xs = run U w (start U) xs
 gate-end U w any xs = end-complement U (run U (opposite w) (start U) (map (end-complement U) xs))
 
--- the rounded end of a tree in a direction, by the exact ends of its events' cuts in that direction
+-- the end of a tree in a direction, by the ends of its basic events
 abbrev mutual
-  pub rounded-end : ℕ → Direction → (ℕ → Fraction) → Tree → End
-  rounded-end U w p (basic e) = cut-end U w (p e)
-  rounded-end U w p (gate k ts) = gate-end U w k (all-ends U w p ts)
+  pub evaluated : ℕ → Direction → (ℕ → End) → Tree → End
+  evaluated U w leaf (basic e) = leaf e
+  evaluated U w leaf (gate k ts) = gate-end U w k (all-evaluated U w leaf ts)
 
-  pub all-ends : ℕ → Direction → (ℕ → Fraction) → Inputs → List End
-  all-ends U w p (only t) = rounded-end U w p t ∷ []
-  all-ends U w p (more t ts) = rounded-end U w p t ∷ all-ends U w p ts
+  pub all-evaluated : ℕ → Direction → (ℕ → End) → Inputs → List End
+  all-evaluated U w leaf (only t) = evaluated U w leaf t ∷ []
+  all-evaluated U w leaf (more t ts) = evaluated U w leaf t ∷ all-evaluated U w leaf ts
+
+-- the rounded end of a tree, by the exact ends of its events' cuts in that direction
+abbrev pub rounded-end : ℕ → Direction → (ℕ → Fraction) → Tree → End
+rounded-end U w p t = evaluated U w (λ e. cut-end U w (p e)) t
 
 -- the end of an interval in a direction
 abbrev pub end-of : Direction → Interval → Fraction

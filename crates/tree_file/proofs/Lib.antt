@@ -1,15 +1,11 @@
--- The laws behind the contracts, and then what an accepted file is (Accepted, RulesKept).
-pub mod FirstFault
-pub mod Runs
-pub mod TallyLaws
-pub mod HeaderTests
-pub mod RecordTests
+-- The laws behind the contracts, then what an accepted file is (Accepted) and what its nodes are (Nodes, NodeTable).
+pub mod Tallies
+pub mod HeaderLaws
+pub mod RecordLaws
 pub mod RecordsTurn
-pub mod RecordsKept
+pub mod LinkLaws
 pub mod LinksTurn
-pub mod LinksKept
-pub mod Parts
 pub mod JudgedParts
 pub mod Accepted
-pub mod RulesKept
+pub mod Nodes
 pub mod NodeTable

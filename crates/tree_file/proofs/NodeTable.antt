@@ -1,93 +1,83 @@
--- The table of an accepted file is numbered in the order of its nodes, its links lead to lower nodes, no node is linked
--- twice, and its last node is the root: what the theory of fault trees asks of a table.
--- Assumes nothing.
+-- The table of a well-formed file is numbered in the order of its nodes, its links lead to lower ranks, no node is
+-- linked twice, and its last node is the root: what the theory of fault trees asks of a table.
 use Prim.Native.Nat.{ℕ, zero, suc, _+_, _-_, _≤_, _<_}
 use mathlib.Core.Path.{_≡_, refl, sym, ap₂, _∙_}
-use mathlib.Core.Bool.{Bool, true, false, cond}
+use mathlib.Core.Bool.{cond}
 use mathlib.Core.List.{List}
 use native.Mathlib.Nat.{le-refl}
 use native.Mathlib.Omega.{arith}
-use borrow.Author.Tests.{eqb-true, eqb-false}
+use borrow.Author.Tests.{eq-eqb, ne-eqb}
 use Rattle.theory.specs.FaultTree.{GateKind}
-use Rattle.theory.specs.NodeTable.{event, joint, links-of, events-of, links-before, event-count, link-count, Has-link}
-use Rattle.theory.specs.NodeTable.{Numbered, Linked-once, Others-linked}
-use Rattle.theory.specs.NodeTable.{events-before as table-events-before}
-use Rattle.theory.proofs.LinksBelow.{Links-below, last-is-root}
-use Rattle.tree_file.specs.Format.{field-a, field-b, kind, link, node-count}
-use Rattle.tree_file.specs.Format.{link-count as file-links}
-use Rattle.tree_file.specs.Tallies.{events-before, input-count, inputs-before, is-basic}
+use Rattle.theory.specs.NodeTable.{event, joint, links-of, events-of, links-before, Has-link, Numbered}
+use Rattle.theory.specs.NodeTable.{Ranked, Linked-once, Others-linked}
+use Rattle.theory.specs.NodeTable as table
+use Rattle.theory.proofs.LinksBelow.{Links-below, last-is-root, ranked-by-number}
+use Rattle.tree_file.specs.Format.{field-a, field-b, kind, link, link-count, node-count}
+use Rattle.tree_file.specs.Tallies.{event-count, events-before, input-count, inputs-before, is-basic}
 use Rattle.tree_file.specs.WellFormed.{WellFormed}
-use Rattle.tree_file.proofs.RecordsKept.{gate-inputs}
-use Rattle.tree_file.specs.NodeTable.{gate-kind, node-of, table-of}
+use Rattle.tree_file.specs.NodeTable.{node-as, node-of, rank, table-of}
+use Rattle.tree_file.specs.declared.node.Node.the-variants.{Gate}
+use Rattle.tree_file.proofs.Tallies.{basic-inputs, gate-inputs}
+use Rattle.tree_file.proofs.Nodes.{NodeCase, gate-of, is-event, is-gate, node-case}
 
 -- The table's count of basic events before a node is the file's.
-pub events-agree : (file : List ℕ) (i : ℕ) → table-events-before (table-of file) i ≡ events-before file i
-unfolding events-before node-of
+events-agree : (file : List ℕ) (i : ℕ) → table.events-before (table-of file) i ≡ events-before file i
+unfolding events-before
 events-agree file zero = refl
-events-agree file (suc i) = ap₂ _+_ (events-agree file i) (go (is-basic file i))
+events-agree file (suc i) = ap₂ _+_ (events-agree file i) (go (node-case file i))
   where
-    go : (b : Bool) → events-of (cond b (event (field-a file i)) (joint (gate-kind (kind file i)) (field-a file i) (field-b file i - 1)))
-        ≡ cond b 1 0
-    go true = refl
-    go false = refl
+    go : NodeCase file i → events-of (node-of file i) ≡ cond (is-basic file i) 1 0
+    go (is-event z q) = rw (q, eq-eqb (kind file i) 0 z)
+    go (is-gate g q) = rw (q, ne-eqb (kind file i) 0 (λ z. omega arith))
 
 module _ (file : List ℕ) (w : WellFormed file) where
-  -- A node that is no basic event is of kind 1 or more.
-  is-gate : (i : ℕ) → is-basic file i ≡ false → 1 ≤ kind file i
-  is-gate i e = omega (arith, eqb-false (kind file i) 0 e)
-
   -- The table's count of links before a node is the file's sum of b.
-  pub links-agree : (i : ℕ) → i ≤ node-count file → links-before (table-of file) i ≡ inputs-before file i
-  unfolding inputs-before input-count node-of
+  links-agree : (i : ℕ) → i ≤ node-count file → links-before (table-of file) i ≡ inputs-before file i
+  unfolding inputs-before
   links-agree zero l = refl
-  links-agree (suc i) l = ap₂ _+_ (links-agree i (omega arith)) (go (is-basic file i) refl)
+  links-agree (suc i) l = ap₂ _+_ (links-agree i (omega arith)) (go (node-case file i))
     where
-      go : (b : Bool) → is-basic file i ≡ b
-          → links-of (cond b (event (field-a file i)) (joint (gate-kind (kind file i)) (field-a file i) (field-b file i - 1)))
-          ≡ cond b 0 (field-b file i)
-      go true e = refl
-      go false e = let least : 1 ≤ field-b file i = w .gate-least i l (is-gate i e) in omega arith
+      go : NodeCase file i → links-of (node-of file i) ≡ input-count file i
+      go (is-event z q) = rw (q, basic-inputs file i z)
+      go (is-gate g q) = rw (q, gate-inputs file i g) (omega (arith, w .node i l .gate-least g))
 
   pub table-numbered : Numbered (table-of file)
-  unfolding node-of
   table-numbered = record {
-    event-number = λ i e l q. number i e l (is-basic file i) refl q;
-    first-link = λ i k a n l q. first i k a n l (is-basic file i) refl q;
+    event-number = λ i e l q. number i e l q (node-case file i);
+    first-link = λ i k a n l q. first i k a n l q (node-case file i);
   }
     where
-      number : (i e : ℕ) → i < node-count file → (b : Bool) → is-basic file i ≡ b
-          → cond b (event (field-a file i)) (joint (gate-kind (kind file i)) (field-a file i) (field-b file i - 1)) ≡ event e
-          → e ≡ table-events-before (table-of file) i
-      number i e l true z q =
+      number : (i e : ℕ) → i < node-count file → node-of file i ≡ event e → NodeCase file i
+          → e ≡ table.events-before (table-of file) i
+      number i e l q (is-event z r) =
           let same : e ≡ field-a file i = cc in
-          same ∙ w .event-number i l (eqb-true (kind file i) 0 z) ∙ sym (events-agree file i)
-      number i e l false z q = cc
+          same ∙ w .node i l .event-number z ∙ sym (events-agree file i)
+      number i e l q (is-gate g r) = cc
 
-      first : (i : ℕ) (k : GateKind) (a n : ℕ) → i < node-count file → (b : Bool) → is-basic file i ≡ b
-          → cond b (event (field-a file i)) (joint (gate-kind (kind file i)) (field-a file i) (field-b file i - 1)) ≡ joint k a n
-          → a ≡ links-before (table-of file) i
-      first i k a n l true z q = cc
-      first i k a n l false z q =
+      first : (i : ℕ) (k : GateKind) (a n : ℕ) → i < node-count file → node-of file i ≡ joint k a n
+          → NodeCase file i → a ≡ links-before (table-of file) i
+      first i k a n l q (is-event z r) = cc
+      first i k a n l q (is-gate g r) =
           let same : a ≡ field-a file i = cc in
-          same ∙ w .gate-first i l (is-gate i z) ∙ sym (links-agree i (omega arith))
+          same ∙ w .node i l .gate-first g ∙ sym (links-agree i (omega arith))
 
-  pub table-links-below : Links-below (table-of file)
-  unfolding node-of
-  table-links-below i j l o = go (is-basic file i) refl o
+  links-below : Links-below (table-of file)
+  links-below i j l o = go (node-case file i)
     where
-      go : (b : Bool) → is-basic file i ≡ b
-          → Has-link (cond b (event (field-a file i)) (joint (gate-kind (kind file i)) (field-a file i) (field-b file i - 1))) j
-          → link file j < i
-      go true z o = absurd o
-      go false z o =
-          let least : 1 ≤ field-b file i = w .gate-least i l (is-gate i z) in
-          let inputs : input-count file i ≡ field-b file i = gate-inputs file i (eqb-false (kind file i) 0 z) in
+      go : NodeCase file i → link file j < i
+      go (is-event z q) = absurd (rw q at o)
+      go (is-gate g q) =
+          let owned : Has-link (node-as (Gate (gate-of file i))) j = rw q at o in
+          let least : 1 ≤ field-b file i = w .node i l .gate-least g in
           let place : field-a file i + (j - field-a file i) ≡ j = omega arith in
-          let counted : j - field-a file i < input-count file i = omega arith in
+          let counted : j - field-a file i < input-count file i = omega (arith, gate-inputs file i g) in
           rw place at (w .below i (j - field-a file i) l counted)
 
+  pub table-ranked : Ranked (table-of file) (rank file)
+  table-ranked = ranked-by-number (table-of file) links-below
+
   -- The table has one link fewer than nodes.
-  pub table-links : link-count (table-of file) ≡ file-links file
+  table-links : table.link-count (table-of file) ≡ link-count file
   table-links = links-agree (node-count file) (le-refl (node-count file)) ∙ w .all-inputs
 
   pub table-linked-once : Linked-once (table-of file)
@@ -95,9 +85,9 @@ module _ (file : List ℕ) (w : WellFormed file) where
 
   pub table-rooted : Others-linked (table-of file) (node-count file - 1)
   table-rooted =
-      last-is-root (table-of file) table-links-below table-numbered table-linked-once (node-count file - 1)
-      (let least : 1 ≤ node-count file = w .nodes-least in omega arith) table-links
+      last-is-root (table-of file) links-below table-numbered table-linked-once (node-count file - 1)
+      (omega (arith, w .header .nodes-least)) table-links
 
   -- E is the number of basic records.
-  pub table-events : event-count (table-of file) ≡ events-before file (node-count file)
+  pub table-events : table.event-count (table-of file) ≡ event-count file
   table-events = events-agree file (node-count file)

@@ -1,75 +1,117 @@
--- The tree file's format: where each field stands, and how wide it is. Numbers are unsigned, low byte first.
--- Assumes nothing.
+-- The tree file's format: where each field stands, how wide it is, and what its limits are.
 use Prim.Native.Nat.{ℕ, _+_, _-_, _*_}
 use mathlib.Core.Bool.{Bool, _&&_}
 use mathlib.Core.List.{List}
-use lib.ListN.{getD}
+use lib.ListN.{drop}
 use lib.Dec.{eqb}
+use Rattle.fields.specs.Fields.{byte, field16}
 
--- The byte at an offset.
-abbrev pub byte : List ℕ → ℕ → ℕ
-byte file at = getD file at 0
-
--- The 16-bit field at an offset.
-unfoldable pub field16 : List ℕ → ℕ → ℕ
-field16 file at = byte file at + 256 * byte file (at + 1)
-
--- The header's length in bytes: three letters and three 16-bit fields.
+-- The lengths in bytes of the header (three letters, three 16-bit fields), of a record (a kind byte, two 16-bit fields)
+-- and of a link (one 16-bit field).
 abbrev pub header-length : ℕ
 header-length = 9
 
--- Bytes 0 to 2 are the letters `FTF`.
+abbrev pub record-length : ℕ
+record-length = 5
+
+abbrev pub link-length : ℕ
+link-length = 2
+
+-- Where the header's fields stand.
+abbrev pub letters-place : ℕ
+letters-place = 0
+
+abbrev pub version-place : ℕ
+version-place = 3
+
+abbrev pub number-place : ℕ
+number-place = 5
+
+abbrev pub nodes-place : ℕ
+nodes-place = 7
+
+-- Where the fields of a record stand in it, after its kind byte.
+abbrev pub a-offset : ℕ
+a-offset = 1
+
+abbrev pub b-offset : ℕ
+b-offset = 3
+
+-- The version that is read, and the most nodes of a file and inputs of a gate.
+abbrev pub version-read : ℕ
+version-read = 1
+
+abbrev pub max-nodes : ℕ
+max-nodes = 1024
+
+abbrev pub max-inputs : ℕ
+max-inputs = 16
+
+-- The kinds of a record: a basic event, AND, OR.
+abbrev pub event-kind : ℕ
+event-kind = 0
+
+abbrev pub and-kind : ℕ
+and-kind = 1
+
+abbrev pub or-kind : ℕ
+or-kind = 2
+
+-- The file begins with the letters `FTF`.
 abbrev pub has-letters : List ℕ → Bool
 has-letters file = eqb (byte file 0) 70 && eqb (byte file 1) 84 && eqb (byte file 2) 70
 
--- Byte 3: the version.
 abbrev pub version : List ℕ → ℕ
-version file = field16 file 3
+version file = field16 file version-place
 
--- Byte 5: the tree number.
 abbrev pub tree-number : List ℕ → ℕ
-tree-number file = field16 file 5
+tree-number file = field16 file number-place
 
--- Byte 7: N, the number of nodes.
+-- N, the number of nodes.
 abbrev pub node-count : List ℕ → ℕ
-node-count file = field16 file 7
+node-count file = field16 file nodes-place
 
 -- The number of links, N − 1: the root alone has none to it. Where N is 0 the file is refused before this counts.
 abbrev pub link-count : List ℕ → ℕ
 link-count file = node-count file - 1
 
--- The length that the counts require: the header, N records of 5 bytes, N − 1 links of 2 bytes.
-abbrev pub required-length : List ℕ → ℕ
-required-length file = 7 * node-count file + 7
-
--- Where the records begin: after the header.
+-- Where the records begin, after the header, and where that of node i does.
 abbrev pub records-at : List ℕ → ℕ
 records-at file = header-length
 
--- Where the record of node i begins.
 abbrev pub record-at : List ℕ → ℕ → ℕ
-record-at file i = records-at file + 5 * i
+record-at file i = records-at file + record-length * i
 
--- The kind of node i: 0 is a basic event, 1 is AND, 2 is OR.
+-- Where the links begin, after the records of all nodes, and where link j does.
+abbrev pub links-at : List ℕ → ℕ
+links-at file = record-at file (node-count file)
+
+abbrev pub link-at : List ℕ → ℕ → ℕ
+link-at file j = links-at file + link-length * j
+
+-- The length that the counts require: the links are the last.
+abbrev pub required-length : List ℕ → ℕ
+required-length file = link-at file (link-count file)
+
+-- The kind of node i.
 abbrev pub kind : List ℕ → ℕ → ℕ
 kind file i = byte file (record-at file i)
 
 -- Field a of node i: a basic event's number, or a gate's first link.
 abbrev pub field-a : List ℕ → ℕ → ℕ
-field-a file i = field16 file (record-at file i + 1)
+field-a file i = field16 file (record-at file i + a-offset)
 
 -- Field b of node i: a gate's number of inputs.
 abbrev pub field-b : List ℕ → ℕ → ℕ
-field-b file i = field16 file (record-at file i + 3)
-
--- Where the links begin: after the records of all nodes.
-abbrev pub links-at : List ℕ → ℕ
-links-at file = record-at file (node-count file)
-
--- Where link j begins.
-abbrev pub link-at : List ℕ → ℕ → ℕ
-link-at file j = links-at file + 2 * j
+field-b file i = field16 file (record-at file i + b-offset)
 
 -- The node that link j names.
 abbrev pub link : List ℕ → ℕ → ℕ
 link file j = field16 file (link-at file j)
+
+-- The part of the file that starts at a link, and the node that link j of such a part names.
+abbrev pub links-from : List ℕ → ℕ → List ℕ
+links-from file first = drop (link-at file first) file
+
+abbrev pub linked : List ℕ → ℕ → ℕ
+linked links j = field16 links (link-length * j)

@@ -1,21 +1,25 @@
--- The rules of the header, in document 01's order.
--- Assumes nothing.
+-- The rules of the header, in document 01's order: refusals 1 to 5.
 use Prim.Native.Nat.{ℕ}
 use mathlib.Core.Bool.{_&&_}
-use mathlib.Core.List.{List}
+use mathlib.Core.List.{List, [], _∷_}
 use lib.ListN.{length}
 use lib.Dec.{leb, eqb}
-use Rattle.tree_file.specs.Format.{has-letters, header-length, node-count, required-length, version}
-use Rattle.tree_file.specs.FirstFault.{_or-else_, unless}
-use Rattle.tree_file.specs.declared.refusal.FirstFault.{FirstFault}
-use Rattle.tree_file.specs.declared.refusal.Refusal.the-variants.{ShortFile, WrongLetters, WrongVersion}
-use Rattle.tree_file.specs.declared.refusal.Refusal.the-variants.{NodeCount, WrongLength}
+use Rattle.refusals.specs.FirstFault.{first-of, unless}
+use Rattle.refusals.specs.declared.refusal.FirstFault.{FirstFault}
+use Rattle.refusals.specs.declared.rule.Rule.the-variants.{TooShort, WrongLetters, WrongVersion, WrongCount}
+use Rattle.refusals.specs.declared.rule.Rule.the-variants.{WrongLength}
+use Rattle.tree_file.specs.Format.{has-letters, header-length, letters-place, max-nodes, node-count, nodes-place}
+use Rattle.tree_file.specs.Format.{required-length, version, version-place, version-read}
 
--- Refusals 1 to 5.
+abbrev pub header-rules : List ℕ → List FirstFault
+header-rules file =
+    unless (leb header-length (length file)) TooShort (length file)
+    ∷ unless (has-letters file) WrongLetters letters-place
+    ∷ unless (eqb (version file) version-read) WrongVersion version-place
+    ∷ unless (leb 1 (node-count file) && leb (node-count file) max-nodes) WrongCount nodes-place
+    ∷ unless (eqb (length file) (required-length file)) WrongLength (length file)
+    ∷ []
+
+-- The first fault of the header.
 unfoldable pub header-fault : List ℕ → FirstFault
-header-fault file =
-    unless (leb header-length (length file)) (ShortFile (length file)) or-else
-    unless (has-letters file) WrongLetters or-else
-    unless (eqb (version file) 1) WrongVersion or-else
-    unless (leb 1 (node-count file) && leb (node-count file) 1024) NodeCount or-else
-    unless (eqb (length file) (required-length file)) (WrongLength (length file))
+header-fault file = first-of (header-rules file)

@@ -1,26 +1,49 @@
--- The table of nodes and links that a tree file holds, and the fault tree that each of its nodes stands for.
--- Assumes nothing.
+-- The nodes of a tree file as they are read, the table that they make, and the fault tree that each of them stands for.
 use Prim.Native.Nat.{ℕ, _-_}
 use mathlib.Core.Bool.{cond}
 use mathlib.Core.List.{List}
 use lib.Dec.{eqb}
-use Rattle.theory.specs.FaultTree.{GateKind, all, any, Tree}
-use Rattle.theory.specs.NodeTable.{Node, event, joint, Table, tree-of}
-use Rattle.tree_file.specs.Format.{field-a, field-b, kind, link, node-count}
+use Rattle.theory.specs.FaultTree.{Tree}
+use Rattle.theory.specs.FaultTree as theory
+use Rattle.theory.specs.NodeTable.{event, joint, Table, tree-of}
+use Rattle.theory.specs.NodeTable as table
+use Rattle.tree_file.specs.Format.{and-kind, field-a, field-b, kind, link, node-count}
 use Rattle.tree_file.specs.Tallies.{is-basic}
+use Rattle.tree_file.specs.declared.node.GateKind.{GateKind}
+use Rattle.tree_file.specs.declared.node.Node.{Node}
+use Rattle.tree_file.specs.declared.node.GateKind.the-variants.{All, Any}
+use Rattle.tree_file.specs.declared.node.Node.the-variants.{Event, Gate}
 
--- Kind 1 is AND, kind 2 is OR.
+-- The kind of gate that a kind byte says.
 abbrev pub gate-kind : ℕ → GateKind
-gate-kind k = cond (eqb k 1) all any
+gate-kind k = cond (eqb k and-kind) All Any
 
--- Node i: a basic event, or a gate with its first link and its inputs beyond the first. A gate has at least one input.
-unfoldable pub node-of : List ℕ → ℕ → Node
-node-of file i =
-    cond (is-basic file i) (event (field-a file i)) (joint (gate-kind (kind file i)) (field-a file i) (field-b file i - 1))
+-- Node i as its record says.
+unfoldable pub read-node : List ℕ → ℕ → Node
+read-node file i =
+    cond (is-basic file i) (Event (field-a file i))
+    (Gate (record { kind = gate-kind (kind file i); first = field-a file i; inputs = field-b file i }))
+
+-- All of the inputs is AND, any of them is OR.
+abbrev pub kind-as : GateKind → theory.GateKind
+kind-as All = theory.all
+kind-as Any = theory.any
+
+-- A node as the theory has it, which counts the inputs beyond the first: a gate has at least one.
+abbrev pub node-as : Node → table.Node
+node-as (Event e) = event e
+node-as (Gate g) = joint (kind-as (g .kind)) (g .first) (g .inputs - 1)
+
+abbrev pub node-of : List ℕ → ℕ → table.Node
+node-of file i = node-as (read-node file i)
 
 abbrev pub table-of : List ℕ → Table
 table-of file = record { size = node-count file; node = node-of file; link = link file }
 
--- The fault tree that node i of an accepted file stands for.
+-- The fault tree that node i of a well-formed file stands for.
 abbrev pub fault-tree : List ℕ → ℕ → Tree
 fault-tree file i = tree-of (table-of file) i
+
+-- A node's rank, which falls from a gate to its inputs: in this version its number.
+abbrev pub rank : List ℕ → ℕ → ℕ
+rank file i = i

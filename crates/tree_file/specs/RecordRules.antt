@@ -1,41 +1,44 @@
--- The rules of the records, rising, the kind before a and b, and then that of the sum of b.
--- Assumes nothing.
-use Prim.Native.Nat.{ℕ, zero, suc, _+_}
+-- The rules of the records, rising, the kind before a and b, and then that of the sum of b: refusals 6 and 7.
+use Prim.Native.Nat.{ℕ, _+_}
 use mathlib.Core.Bool.{Bool, _&&_, cond}
-use mathlib.Core.List.{List}
+use mathlib.Core.List.{List, [], _∷_}
 use lib.Dec.{leb, eqb}
-use Rattle.tree_file.specs.Format.{field-a, field-b, kind, link-count, links-at, node-count, record-at}
-use Rattle.tree_file.specs.Tallies.{events-before, inputs-before, is-basic}
-use Rattle.tree_file.specs.FirstFault.{_or-else_, unless}
-use Rattle.tree_file.specs.declared.refusal.FirstFault.{FirstFault}
-use Rattle.tree_file.specs.declared.refusal.Refusal.the-variants.{UnknownKind, WrongRecord, MissingInputs}
-use Rattle.tree_file.specs.declared.refusal.FirstFault.the-variants.{Absent}
-
--- The kinds of a record: a basic event, AND, OR.
-abbrev pub is-kind : ℕ → Bool
-is-kind k = leb k 2
+use Rattle.refusals.specs.FirstFault.{first-among, first-of, unless}
+use Rattle.refusals.specs.declared.refusal.FirstFault.{FirstFault}
+use Rattle.refusals.specs.declared.rule.Rule.the-variants.{UnknownKind, WrongField}
+use Rattle.tree_file.specs.Format.{event-kind, field-a, field-b, kind, link-count, links-at, max-inputs}
+use Rattle.tree_file.specs.Format.{node-count, or-kind, record-at}
+use Rattle.tree_file.specs.Tallies.{events-before, inputs-before}
 
 -- A basic event's a is its event number, counting basic records from 0, and its b is 0.
-abbrev pub basic-right : List ℕ → ℕ → Bool
-basic-right file i = eqb (field-a file i) (events-before file i) && eqb (field-b file i) 0
+abbrev pub is-event : ℕ → ℕ → ℕ → Bool
+is-event a b events = eqb a events && eqb b 0
 
--- A gate has 1 to 16 inputs, its a is the sum of b over earlier gates, and a + b is at most N − 1.
-abbrev pub gate-right : List ℕ → ℕ → Bool
-gate-right file i =
-    leb 1 (field-b file i) && leb (field-b file i) 16 && eqb (field-a file i) (inputs-before file i)
-    && leb (field-a file i + field-b file i) (link-count file)
+-- A gate has 1 to 16 inputs, its a is the sum of b over earlier gates, and a + b is at most N − 1, the number of links.
+abbrev pub is-gate : ℕ → ℕ → ℕ → ℕ → Bool
+is-gate a b inputs links = leb 1 b && leb b max-inputs && eqb a inputs && leb (a + b) links
 
--- Refusals 6 and 7 of record i.
+-- Fields a and b of a record of kind k, with so many basic events and inputs of gates before it.
+unfoldable pub has-fields : ℕ → ℕ → ℕ → ℕ → ℕ → ℕ → Bool
+has-fields k a b events inputs links = cond (eqb k event-kind) (is-event a b events) (is-gate a b inputs links)
+
+-- The rules of record i.
+abbrev pub record-rules : List ℕ → ℕ → List FirstFault
+record-rules file i =
+    unless (leb (kind file i) or-kind) UnknownKind (record-at file i)
+    ∷ unless
+    (has-fields (kind file i) (field-a file i) (field-b file i) (events-before file i) (inputs-before file i)
+    (link-count file)) WrongField (record-at file i)
+    ∷ []
+
+-- The first fault of record i.
 unfoldable pub record-fault : List ℕ → ℕ → FirstFault
-record-fault file i =
-    unless (is-kind (kind file i)) (UnknownKind (record-at file i)) or-else
-    unless (cond (is-basic file i) (basic-right file i) (gate-right file i)) (WrongRecord (record-at file i))
+record-fault file i = first-of (record-rules file i)
 
--- The first fault among the first i records.
-unfoldable pub records-fault : List ℕ → ℕ → FirstFault
-records-fault file zero = Absent
-records-fault file (suc i) = records-fault file i or-else record-fault file i
+-- The first fault of the records.
+abbrev pub records-fault : List ℕ → FirstFault
+records-fault file = first-among (record-fault file) (node-count file)
 
--- Refusal 7 of the sum: all b together make N − 1. Above it they can't be, since no gate's a + b is.
+-- The fault of the sum: all b together make N − 1. Above it they can't be, since no gate's a + b is.
 unfoldable pub sum-fault : List ℕ → FirstFault
-sum-fault file = unless (leb (link-count file) (inputs-before file (node-count file))) (MissingInputs (links-at file))
+sum-fault file = unless (leb (link-count file) (inputs-before file (node-count file))) WrongField (links-at file)

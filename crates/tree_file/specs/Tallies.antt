@@ -1,14 +1,13 @@
 -- Counts over the first records of a file.
--- Assumes nothing.
 use Prim.Native.Nat.{ℕ, zero, suc, _+_}
 use mathlib.Core.Bool.{Bool, cond}
 use mathlib.Core.List.{List}
 use lib.Dec.{eqb}
-use Rattle.tree_file.specs.Format.{field-b, kind}
+use Rattle.tree_file.specs.Format.{event-kind, field-b, kind, node-count}
 
 -- Node i is a basic event.
 abbrev pub is-basic : List ℕ → ℕ → Bool
-is-basic file i = eqb (kind file i) 0
+is-basic file i = eqb (kind file i) event-kind
 
 -- The number of inputs of node i: b of a gate, none of a basic event.
 unfoldable pub input-count : List ℕ → ℕ → ℕ
@@ -18,6 +17,10 @@ input-count file i = cond (is-basic file i) 0 (field-b file i)
 unfoldable pub events-before : List ℕ → ℕ → ℕ
 events-before file zero = 0
 events-before file (suc i) = events-before file i + cond (is-basic file i) 1 0
+
+-- E, the number of basic events.
+abbrev pub event-count : List ℕ → ℕ
+event-count file = events-before file (node-count file)
 
 -- The sum of b over the gates among the first i nodes.
 unfoldable pub inputs-before : List ℕ → ℕ → ℕ

@@ -1,7 +1,17 @@
 // Judges the header of a tree file: refusals 1 to 5.
-use crate::format::field_at;
-use crate::refusal::FirstFault;
-use crate::refusal::Refusal;
+use crate::format::HEADER_LENGTH;
+use crate::format::LETTERS_PLACE;
+use crate::format::MAX_NODES;
+use crate::format::NODES_PLACE;
+use crate::format::VERSION;
+use crate::format::VERSION_PLACE;
+use crate::format::has_letters;
+use crate::format::link_at;
+use crate::format::node_count;
+use fields::fields::field16_at;
+use refusals::refusal::FirstFault;
+use refusals::refusal::Refusal;
+use refusals::rule::Rule;
 ghost use mathlib.Core.Path.{_≡_};
 ghost use Rattle.tree_file.specs.HeaderRules.{header-fault};
 
@@ -10,31 +20,38 @@ pub fn judge_header(file: &[u8]) -> FirstFault
     ensures { λ r. ⌜ r ≡ header-fault (now (file .entry)) ⌝ }
 {
     let length = file.len();
-    if length < 9 {
-        return FirstFault::Found(Refusal::ShortFile(length));
+    if length < HEADER_LENGTH {
+        return FirstFault::Found(Refusal {
+            rule: Rule::TooShort,
+            place: length,
+        });
     }
-    if file[0] != b'F' {
-        return FirstFault::Found(Refusal::WrongLetters);
+    if !has_letters(file) {
+        return FirstFault::Found(Refusal {
+            rule: Rule::WrongLetters,
+            place: LETTERS_PLACE,
+        });
     }
-    if file[1] != b'T' {
-        return FirstFault::Found(Refusal::WrongLetters);
+    let version = field16_at(file, VERSION_PLACE);
+    if version != VERSION {
+        return FirstFault::Found(Refusal {
+            rule: Rule::WrongVersion,
+            place: VERSION_PLACE,
+        });
     }
-    if file[2] != b'F' {
-        return FirstFault::Found(Refusal::WrongLetters);
+    let nodes = node_count(file);
+    let in_range = (1 <= nodes) & (nodes <= MAX_NODES);
+    if !in_range {
+        return FirstFault::Found(Refusal {
+            rule: Rule::WrongCount,
+            place: NODES_PLACE,
+        });
     }
-    let version = field_at(file, 3);
-    if version != 1 {
-        return FirstFault::Found(Refusal::WrongVersion);
-    }
-    let nodes = field_at(file, 7);
-    if nodes < 1 {
-        return FirstFault::Found(Refusal::NodeCount);
-    }
-    if 1024 < nodes {
-        return FirstFault::Found(Refusal::NodeCount);
-    }
-    if length != 7 * nodes + 7 {
-        return FirstFault::Found(Refusal::WrongLength(length));
+    if length != link_at(file, nodes - 1) {
+        return FirstFault::Found(Refusal {
+            rule: Rule::WrongLength,
+            place: length,
+        });
     }
     FirstFault::Absent
 }

@@ -1,10 +1,10 @@
 // Judges a tree file.
-use crate::format::field_at;
+use crate::format::node_count;
 use crate::header::judge_header;
 use crate::judgement::Judgement;
 use crate::links::judge_links;
 use crate::records::judge_records;
-use crate::refusal::FirstFault;
+use refusals::refusal::FirstFault;
 ghost use mathlib.Core.Path.{_≡_};
 ghost use Rattle.tree_file.specs.Judged.{judged};
 
@@ -16,7 +16,7 @@ pub fn judge(file: &[u8]) -> Judgement
     if let FirstFault::Found(refusal) = header {
         return Judgement::Refused(refusal);
     }
-    let nodes = field_at(file, 7);
+    let nodes = node_count(file);
     let records = judge_records(file, nodes);
     let Judgement::Accepted(counts) = records else {
         return records;

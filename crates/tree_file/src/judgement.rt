@@ -1,5 +1,5 @@
 // What judging a tree file answers.
-use crate::refusal::Refusal;
+use refusals::refusal::Refusal;
 
 // What an accepted tree file holds: its tree number, its nodes (N) and its basic events (E).
 pub struct Counts {

@@ -1,8 +1,8 @@
-// Judges a tree file and reads its records and links. The main contract is that of `judge::judge`.
-pub mod format;
+// Judges a tree file and reads its nodes and links. The main contracts are those of `judge::judge` and `node::node_at`.
+mod format;
 mod header;
 pub mod judge;
 pub mod judgement;
 mod links;
+pub mod node;
 mod records;
-pub mod refusal;

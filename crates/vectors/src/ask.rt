@@ -1,60 +1,51 @@
 // Judging and questioning a level, each with what it prints.
 use crate::call::Question;
-use crate::desk::Desk;
-use crate::desk::with_state;
+use crate::checksum::of_units;
+use crate::front::front;
+use crate::front::units_front;
 use crate::print::print_after;
+use crate::print::print_decimal;
+use crate::print::print_line_end;
 use crate::print::print_marks;
-use crate::print::print_no_room;
 use crate::print::print_number;
 use crate::print::print_refusal;
-use crate::print::print_slice;
 use crate::print::print_text;
 use crate::print::print_units;
 use monitor::held::Standing;
 use monitor::question::Outcome;
 use monitor::question::Report;
 use monitor::state::State;
+use rounding::end::End;
+
+// The number of basic events, which ends a line.
+fn print_events(events: usize) {
+    print_text(b" events ");
+    print_number(events);
+    print_line_end();
+}
 
 fn print_standing(standing: Standing) {
     match standing {
-        Standing::Ready(sizes) => {
+        Standing::Ready(counts) => {
             print_text(b"nodes ");
-            print_number(sizes.nodes);
-            print_text(b" events ");
-            print_number(sizes.events);
-            print_text(b"\n");
+            print_number(counts.nodes);
+            print_events(counts.events);
         }
         Standing::Refused(refusal) => print_refusal(refusal),
     }
 }
 
 // Judges level k of n. The state is not handed back: it is the one that went in.
-pub fn call_judge(desk: Desk, k: u32, n: u32, tree: &[u8], sheet: &[u8]) {
-    let tree_store = desk.tree_store;
-    let sheet_store = desk.sheet_store;
-    if tree.len() < tree_store {
-        print_no_room();
-        return;
-    }
-    if sheet.len() < sheet_store {
-        print_no_room();
-        return;
-    }
-    let standing = monitor::judge::judge(
-        desk.state,
-        &tree[..tree_store],
-        &sheet[..sheet_store],
-        k,
-        n,
-    );
+pub fn call_judge(state: State, k: u32, n: u32, tree: &[u8], sheet: &[u8]) {
+    let standing = monitor::judge::judge(state, tree, sheet, k, n);
     print_standing(standing);
-    print_after(desk, tree, sheet);
+    print_after(state, tree, sheet);
 }
 
 // An end's units and its mark.
-fn print_end(units: u32, exact: bool) {
-    print_units(units);
-    if exact {
+fn print_end(end: End) {
+    print_decimal(of_units(end.value));
+    if end.exact {
         print_text(b" =");
     } else {
         print_text(b" ~");
@@ -63,12 +54,10 @@ fn print_end(units: u32, exact: bool) {
 
 fn print_report(report: Report) {
     print_text(b"lower ");
-    print_end(report.lower, report.lower_exact);
+    print_end(report.ends.lower);
     print_text(b" upper ");
-    print_end(report.upper, report.upper_exact);
-    print_text(b" events ");
-    print_number(report.events);
-    print_text(b"\n");
+    print_end(report.ends.upper);
+    print_events(report.events);
 }
 
 fn print_outcome(outcome: Outcome) {
@@ -78,8 +67,17 @@ fn print_outcome(outcome: Outcome) {
     }
 }
 
-// Questions a level; the state after it.
-fn state_after_question(
+fn print_slices(lower: &[u32], upper: &[u32], marks: &[u8]) {
+    print_text(b"lower");
+    print_units(lower);
+    print_text(b"upper");
+    print_units(upper);
+    print_text(b"marks");
+    print_marks(marks);
+}
+
+// Questions level k of n with these work slices; the state after it.
+fn question_with(
     state: State,
     tree: &[u8],
     sheet: &[u8],
@@ -92,86 +90,30 @@ fn state_after_question(
     let reply = monitor::question::question(state, tree, sheet, k, n, lower, upper, marks);
     let outcome = reply.outcome;
     print_outcome(outcome);
+    print_after(reply.state, tree, sheet);
+    print_slices(lower, upper, marks);
     reply.state
 }
 
-fn print_slices(lower: &[u32], upper: &[u32], marks: &[u8]) {
-    print_text(b"lower");
-    print_slice(lower);
-    print_text(b"upper");
-    print_slice(upper);
-    print_text(b"marks");
-    print_marks(marks);
-}
-
-// Questions a level with work slices of the lengths asked for.
-fn question_with(
-    desk: Desk,
-    k: u32,
-    n: u32,
-    tree: &[u8],
-    sheet: &[u8],
-    lower: &mut [u32],
-    upper: &mut [u32],
-    marks: &mut [u8],
-) -> Desk {
-    let tree_store = desk.tree_store;
-    let sheet_store = desk.sheet_store;
-    if tree.len() < tree_store {
-        print_no_room();
-        return desk;
-    }
-    if sheet.len() < sheet_store {
-        print_no_room();
-        return desk;
-    }
-    let state = state_after_question(
-        desk.state,
-        &tree[..tree_store],
-        &sheet[..sheet_store],
-        k,
-        n,
-        lower,
-        upper,
-        marks,
-    );
-    let after = with_state(desk, state);
-    print_after(after, tree, sheet);
-    print_slices(lower, upper, marks);
-    after
-}
-
-// Questions a level with the front of the work slices, where they have room.
+// Questions a level with the front of the work slices.
 fn question_within(
-    desk: Desk,
+    state: State,
     question: Question,
     tree: &[u8],
     sheet: &[u8],
     lower: &mut [u32],
     upper: &mut [u32],
     marks: &mut [u8],
-) -> Desk {
-    let lowers = question.lower;
-    let uppers = question.upper;
-    let places = question.marks;
-    if lower.len() < lowers {
-        print_no_room();
-        return desk;
-    }
-    if upper.len() < uppers {
-        print_no_room();
-        return desk;
-    }
-    if marks.len() < places {
-        print_no_room();
-        return desk;
-    }
+) -> State {
+    let lowers = units_front(question.lower, lower);
+    let uppers = units_front(question.upper, upper);
+    let places = front(question.marks, marks);
     question_with(
-        desk,
-        question.k,
-        question.n,
+        state,
         tree,
         sheet,
+        question.k,
+        question.n,
         &mut lower[..lowers],
         &mut upper[..uppers],
         &mut marks[..places],
@@ -179,12 +121,12 @@ fn question_within(
 }
 
 // Questions a level with fresh work slices, filled so that what a question leaves alone is seen.
-pub fn call_question(desk: Desk, question: Question, tree: &[u8], sheet: &[u8]) -> Desk {
+pub fn call_question(state: State, question: Question, tree: &[u8], sheet: &[u8]) -> State {
     let mut lower = [4000000001u32; 1100];
     let mut upper = [4000000002u32; 1100];
     let mut marks = [238u8; 1100];
     question_within(
-        desk,
+        state,
         question,
         tree,
         sheet,

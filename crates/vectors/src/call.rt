@@ -1,6 +1,5 @@
 // Reading a call: a byte that says which, and five numbers of 32 bits, low byte first.
-
-ghost use Prim.Native.Nat.{_+_, _<_};
+use fields::fields::field32_at;
 
 // A call on the monitor, or a setting of what it works on.
 pub enum Call {
@@ -29,18 +28,6 @@ pub struct Question {
     pub lower: usize,
     pub upper: usize,
     pub marks: usize,
-}
-
-// The number that four bytes spell, low byte first.
-fn number_of(first: u8, second: u8, third: u8, fourth: u8) -> u32 {
-    first as u32 + second as u32 * 256 + third as u32 * 65536 + fourth as u32 * 16777216
-}
-
-// The number that the four bytes from a place on spell.
-fn number_at(head: &[u8; 21], at: usize) -> u32
-    requires { ⌜ at + 3 < 21 ⌝ }
-{
-    number_of(head[at], head[at + 1], head[at + 2], head[at + 3])
 }
 
 // The call that a byte and its numbers spell.
@@ -74,10 +61,10 @@ pub fn read_call() -> Call {
     }
     call_of(
         head[0],
-        number_at(&head, 1),
-        number_at(&head, 5),
-        number_at(&head, 9),
-        number_at(&head, 13),
-        number_at(&head, 17),
+        field32_at(&head, 1),
+        field32_at(&head, 5),
+        field32_at(&head, 9),
+        field32_at(&head, 13),
+        field32_at(&head, 17),
     )
 }

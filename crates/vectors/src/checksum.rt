@@ -5,11 +5,11 @@ fn with_place(sum: u64, place: u64) -> u64 {
     (sum % 4294967291 * 257 + place % 4294967291) % 4294967291
 }
 
-fn of_byte(byte: u8) -> u64 {
+pub fn of_byte(byte: u8) -> u64 {
     byte as u64
 }
 
-fn of_units(units: u32) -> u64 {
+pub fn of_units(units: u32) -> u64 {
     units as u64
 }
 

@@ -39,26 +39,6 @@ pub fn set_stores(
     }
 }
 
-pub fn set_held(desk: Desk, tree_len: usize, sheet_len: usize) -> Desk {
-    Desk {
-        state: State {
-            tree_len,
-            sheet_len,
-        },
-        tree_store: desk.tree_store,
-        sheet_store: desk.sheet_store,
-    }
-}
-
-// The desk with another state.
-pub fn with_state(desk: Desk, state: State) -> Desk {
-    Desk {
-        state,
-        tree_store: desk.tree_store,
-        sheet_store: desk.sheet_store,
-    }
-}
-
 // Puts a byte at a place of a store.
 pub fn poke(store: &mut [u8], place: usize, byte: u32) {
     if store.len() <= place {

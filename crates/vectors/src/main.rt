@@ -5,6 +5,7 @@ mod call;
 mod checksum;
 mod desk;
 mod fill;
+mod front;
 mod hand_in;
 mod print;
 mod run;

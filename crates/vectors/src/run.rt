@@ -6,48 +6,76 @@ use crate::call::read_call;
 use crate::desk::Desk;
 use crate::desk::empty_desk;
 use crate::desk::poke;
-use crate::desk::set_held;
 use crate::desk::set_stores;
+use crate::front::front;
 use crate::hand_in::call_drop;
 use crate::hand_in::call_sheet;
 use crate::hand_in::call_tree;
+use monitor::state::State;
 
-// The desk after a setting; any other call leaves it as it is.
-fn after_setting(desk: Desk, call: Call, tree: &mut [u8], sheet: &mut [u8]) -> Desk {
+// The state after a setting; any other call leaves it as it is.
+fn after_setting(state: State, call: Call, tree: &mut [u8], sheet: &mut [u8]) -> State {
     match call {
-        Call::Stores(one, two) => set_stores(desk, one, two, tree, sheet),
         Call::PokeTree(place, byte) => {
             poke(tree, place, byte);
-            desk
+            state
         }
         Call::PokeSheet(place, byte) => {
             poke(sheet, place, byte);
-            desk
+            state
         }
-        Call::Held(one, two) => set_held(desk, one, two),
-        _ => desk,
+        Call::Held(tree_len, sheet_len) => State {
+            tree_len,
+            sheet_len,
+        },
+        _ => state,
     }
 }
 
-// The desk after a hand-in, a drop or a setting.
-fn after_hand_in(desk: Desk, call: Call, tree: &mut [u8], sheet: &mut [u8]) -> Desk {
+// The state after a hand-in, a drop or a setting.
+fn after_hand_in(state: State, call: Call, tree: &mut [u8], sheet: &mut [u8]) -> State {
     match call {
-        Call::Tree(length) => call_tree(desk, length, tree, sheet),
-        Call::Sheet(length) => call_sheet(desk, length, tree, sheet),
-        Call::Drop => call_drop(desk, tree, sheet),
-        _ => after_setting(desk, call, tree, sheet),
+        Call::Tree(length) => call_tree(state, length, tree, sheet),
+        Call::Sheet(length) => call_sheet(state, length, tree, sheet),
+        Call::Drop => call_drop(state, tree, sheet),
+        _ => after_setting(state, call, tree, sheet),
     }
 }
 
-// Answers a call and prints what there is after it: the desk for the next call.
-fn after_call(desk: Desk, call: Call, tree: &mut [u8], sheet: &mut [u8]) -> Desk {
+// Answers a call on these stores and prints what there is after it: the state for the next call.
+fn after_call(state: State, call: Call, tree: &mut [u8], sheet: &mut [u8]) -> State {
     match call {
         Call::Judge(k, n) => {
-            call_judge(desk, k, n, tree, sheet);
-            desk
+            call_judge(state, k, n, tree, sheet);
+            state
         }
-        Call::Question(question) => call_question(desk, question, tree, sheet),
-        _ => after_hand_in(desk, call, tree, sheet),
+        Call::Question(question) => call_question(state, question, tree, sheet),
+        _ => after_hand_in(state, call, tree, sheet),
+    }
+}
+
+// A call on the fronts that are the stores.
+fn on_stores(desk: Desk, call: Call, tree: &mut [u8], sheet: &mut [u8]) -> Desk {
+    let tree_store = front(desk.tree_store, tree);
+    let sheet_store = front(desk.sheet_store, sheet);
+    let state = after_call(
+        desk.state,
+        call,
+        &mut tree[..tree_store],
+        &mut sheet[..sheet_store],
+    );
+    Desk {
+        state,
+        tree_store,
+        sheet_store,
+    }
+}
+
+// The desk for the next call.
+fn desk_after(desk: Desk, call: Call, tree: &mut [u8], sheet: &mut [u8]) -> Desk {
+    match call {
+        Call::Stores(one, two) => set_stores(desk, one, two, tree, sheet),
+        _ => on_stores(desk, call, tree, sheet),
     }
 }
 
@@ -60,7 +88,7 @@ pub fn run(tree: &mut [u8], sheet: &mut [u8]) {
         if let Call::End = call {
             return;
         }
-        desk = after_call(desk, call, tree, sheet);
+        desk = desk_after(desk, call, tree, sheet);
         left -= 1;
     }
 }

@@ -1,4 +1,4 @@
--- `level_cases::answer` is safe and ends. Assumes nothing.
+-- `level_cases::answer` is safe and ends.
 use borrow.Author.Needs.{needs}
 use Rattle.printer.proofs.TextLength.{complete-inside, complete-counted}
 use Rattle.level_cases.proofs.answer.Statement.{statement}

@@ -1,4 +1,4 @@
--- `level_cases::answer_next` is safe and ends. Assumes nothing.
+-- `level_cases::answer_next` is safe and ends.
 use borrow.Author.Needs.{needs}
 use Rattle.printer.proofs.TextLength.{counted-front}
 use Rattle.level_cases.proofs.answer_next.Statement.{statement}

@@ -1,4 +1,4 @@
--- `level_cases::run` is safe and ends. Assumes nothing.
+-- `level_cases::run` is safe and ends.
 use borrow.Author.Needs.{needs}
 use lib.ListN.{length}
 use mathlib.Core.Path.{_≡_}

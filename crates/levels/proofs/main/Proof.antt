@@ -1,4 +1,4 @@
--- `levels::main` is safe and ends. Assumes nothing.
+-- `levels::main` is safe and ends.
 use borrow.Author.Needs.{needs}
 use Rattle.printer.proofs.TextLength.{complete-inside, complete-counted}
 use Rattle.levels.proofs.main.Statement.{statement}

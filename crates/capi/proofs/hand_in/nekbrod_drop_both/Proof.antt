@@ -1,4 +1,4 @@
--- `capi::hand_in::nekbrod_drop_both` meets its contract. Assumes nothing.
+-- `capi::hand_in::nekbrod_drop_both` meets its contract.
 use mathlib.Core.Path.{ap}
 use borrow.Author.Needs.{needs}
 use Rattle.capi.specs.State.{state-of}

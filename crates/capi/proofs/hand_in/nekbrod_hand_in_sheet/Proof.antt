@@ -1,9 +1,5 @@
--- `capi::hand_in::nekbrod_hand_in_sheet` meets its contract. Assumes nothing.
-use denote.Ref.{now}
+-- `capi::hand_in::nekbrod_hand_in_sheet` meets its contract.
 use borrow.Author.Needs.{needs}
-use Rattle.monitor.specs.HandIn.{sheet-answer}
-use Rattle.monitor.specs.declared.state.State.{State as Held}
-use Rattle.capi.proofs.Forms.{answer-made}
 use Rattle.capi.proofs.hand_in.nekbrod_hand_in_sheet.Statement.{statement}
 use Rattle.capi.proofs.hand_in.nekbrod_hand_in_sheet.Tie as tie
 
@@ -13,26 +9,18 @@ held-state-requires c κs = search needs
 hand-in-sheet-requires : tie.Need-hand-in-sheet-requires
 hand-in-sheet-requires c κs = search needs
 
-lengths-requires : tie.Need-lengths-requires
-lengths-requires c κs = search needs
-
-refusal-of-requires : tie.Need-refusal-of-requires
-refusal-of-requires c κs = search needs
+answer-by-requires : tie.Need-answer-by-requires
+answer-by-requires c κs = search needs
 
 same-length : tie.Need-same-length
 same-length c = search needs
 
 returns : tie.Need-returns
 returns c =
-    let handed = c .before .before .before .before in
+    let handed = c .before .before .before in
     let converted = handed .before .before in
-    let args = converted .before .before .before .args in
-    let answer = handed .hand-in-sheet in (
-      answer-made (λ (held : Held). sheet-answer held (now (args .sheet)) (now (args .store))) (args .state) _
-          (converted .held-state .ensures) (answer .result) (answer .ensures .0) _ (c .before .lengths .ensures) _
-          (c .refusal-of .ensures),
-      answer .ensures .1,
-    )
+    let promised = handed .hand-in-sheet .ensures in
+    (rw (c .answer-by .ensures, promised .0, converted .held-state .ensures), promised .1)
 
 pub nekbrod-hand-in-sheet-spec : {M : Type 1} → statement M
 nekbrod-hand-in-sheet-spec =
@@ -40,7 +28,6 @@ nekbrod-hand-in-sheet-spec =
     (tie.spec
     held-state-requires
     hand-in-sheet-requires
-    lengths-requires
-    refusal-of-requires
+    answer-by-requires
     same-length
     returns)

@@ -1,6 +1,5 @@
--- `capi::judge::standing_for` meets its contract. Assumes nothing.
+-- `capi::judge::standing_for` meets its contract.
 use borrow.Author.Needs.{needs}
-use Rattle.capi.proofs.Forms.{ready-made, standing-refused}
 use Rattle.capi.proofs.judge.standing_for.Statement.{statement}
 use Rattle.capi.proofs.judge.standing_for.Tie as tie
 
@@ -17,10 +16,10 @@ refusal-for-requires : tie.Need-refusal-for-requires
 refusal-for-requires c κs = search needs
 
 returns : tie.Need-returns
-returns c = search (needs, ready-made)
+returns c = rw (c .before .before .judged .given .1, c .no-refusal .ensures)
 
 returns-2 : tie.Need-returns-2
-returns-2 c = search (needs, standing-refused)
+returns-2 c = rw (c .before .before .judged2 .given .1, c .refusal-for .ensures)
 
 pub standing-for-spec : {M : Type 1} → statement M
 standing-for-spec =

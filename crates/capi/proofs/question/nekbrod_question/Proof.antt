@@ -1,7 +1,7 @@
--- `capi::question::nekbrod_question` meets its contract: monitor's promises, of the C reply. Assumes nothing.
-use denote.Ref.{now}
+-- `capi::question::nekbrod_question` meets its contract, by monitor's promises.
 use borrow.Author.Needs.{needs}
-use Rattle.capi.proofs.Replies.{all-promised}
+use Rattle.evaluation.specs.Slices.{slices}
+use Rattle.capi.proofs.Kept.{kept-by}
 use Rattle.capi.proofs.question.nekbrod_question.Statement.{statement}
 use Rattle.capi.proofs.question.nekbrod_question.Tie as tie
 
@@ -10,9 +10,6 @@ held-state-requires c κs = search needs
 
 question-requires : tie.Need-question-requires
 question-requires c κs = search needs
-
-lengths-requires : tie.Need-lengths-requires
-lengths-requires c κs = search needs
 
 reply-by-requires : tie.Need-reply-by-requires
 reply-by-requires c κs = search needs
@@ -28,14 +25,12 @@ same-length-3 c = search needs
 
 returns : tie.Need-returns
 returns c =
-    let questioned = c .before .before .before .before .before .before .before .before in
+    let questioned = c .before .before .before .before .before .before .before in
     let converted = questioned .before .before .before .before in
-    let args = converted .before .before .before .before .before .before .args in
-    let promised = questioned .question .ensures in
-    all-promised (now (args .tree-store)) (now (args .sheet-store)) (args .k) (args .n) (now (args .lower))
-    (now (args .upper)) (now (args .marks)) (args .state) _ (converted .held-state .ensures)
-    (questioned .question .result) _ _ _ (promised .0) (promised .1 .0) (promised .1 .1 .0) (promised .1 .1 .1 .0)
-    (promised .1 .1 .1 .1) _ (c .before .lengths .ensures) _ (c .reply-by .ensures)
+    let promised = rw (converted .held-state .ensures) at (questioned .question .ensures) in
+    let reply = questioned .question .result in
+    let kept = kept-by (reply .state) (reply .outcome) _ _ _ _ (slices _ _ _) (promised .1 .1) in
+    (rw (c .reply-by .ensures, promised .0), (promised .1 .0, rw (c .reply-by .ensures) kept))
 
 pub nekbrod-question-spec : {M : Type 1} → statement M
 nekbrod-question-spec =
@@ -43,7 +38,6 @@ nekbrod-question-spec =
     (tie.spec
     held-state-requires
     question-requires
-    lengths-requires
     reply-by-requires
     same-length
     same-length-2

@@ -1,9 +1,8 @@
--- `monitor::hand_in::hand_in_sheet` meets its contract: each return is a verdict on the file, and the copy is the file
--- at the front of the store.
--- Assumes nothing.
+-- `monitor::hand_in::hand_in_sheet` meets its contract.
+use mathlib.Core.Path.{sym, _∙_}
+use Rattle.opinion_sheet.proofs.Accepted.{accepted-absent, refused-found}
+use Rattle.monitor.proofs.HandIn.{refused-file, refused-store, taken}
 use borrow.Author.Needs.{needs}
-use Rattle.monitor.proofs.HandIn.{sheet-refused, sheet-refused-store, sheet-too-long, sheet-too-long-store}
-use Rattle.monitor.proofs.HandIn.{sheet-taken, sheet-taken-store}
 use Rattle.monitor.proofs.hand_in.hand_in_sheet.Statement.{statement}
 use Rattle.monitor.proofs.hand_in.hand_in_sheet.Tie as tie
 
@@ -14,13 +13,17 @@ enum-known-judgement : tie.Need-enum-known-judgement
 enum-known-judgement c = search needs
 
 returns : tie.Need-returns
-returns c = search (sheet-refused, sheet-refused-store)
+returns c =
+    let judged = c .before .before .before .judge .ensures in
+    refused-file _ _ _ _ _ _ (refused-found _ _ _ (sym judged ∙ c .before .judgement .given .1))
 
 enum-told : tie.Need-enum-told
 enum-told c = search needs
 
 returns-2 : tie.Need-returns-2
-returns-2 c = search (sheet-too-long, sheet-too-long-store)
+returns-2 c =
+    let judged = c .before .before .before .judge .ensures in
+    refused-store _ _ _ _ _ (accepted-absent _ _ _ (sym judged ∙ c .before .enum-told .given .1) .0) (c .if1 .taken)
 
 copy-requires : tie.Need-copy-requires
 copy-requires c κs = search needs
@@ -29,7 +32,14 @@ same-length : tie.Need-same-length
 same-length c = search needs
 
 returns-3 : tie.Need-returns-3
-returns-3 c = search (sheet-taken, sheet-taken-store)
+returns-3 c =
+    let copied = c .before .before .copy .ensures in
+    let inside = c .before .before .before .before in
+    let told = inside .before in
+    let judged = told .before .before in
+    let state = judged .before .before .before .args .state in
+    taken _ _ _ _ _ (accepted-absent _ _ _ (sym (judged .judge .ensures) ∙ told .enum-told .given .1) .0)
+    (inside .if1 .left) _ (λ i. record { «tree_len» = state .«tree_len»; «sheet_len» = copied .0 i }) _ (copied .1)
 
 pub hand-in-sheet-spec : {M : Type 1} → statement M
 hand-in-sheet-spec =

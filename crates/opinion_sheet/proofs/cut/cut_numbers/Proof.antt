@@ -1,9 +1,8 @@
 -- `opinion_sheet::cut::cut_numbers` meets its contract: whole units are cut with no denominator.
--- Assumes nothing.
 use mathlib.Core.Path.{_∙_}
+use lib.Dec.{lit<}
 use borrow.Author.Needs.{needs}
-use native.Mathlib.Omega.{arith}
-use Rattle.opinion_sheet.proofs.Rules.{numbers-rule}
+use Rattle.theory.specs.Unit.{billion}
 use Rattle.opinion_sheet.proofs.CutScaled.{cut-whole}
 use Rattle.opinion_sheet.proofs.cut.cut_numbers.Statement.{statement}
 use Rattle.opinion_sheet.proofs.cut.cut_numbers.Tie as tie
@@ -21,22 +20,12 @@ cast-cut-of-2 : tie.Need-cast-cut-of-2
 cast-cut-of-2 c = search needs
 
 cut-of-requires : tie.Need-cut-of-requires
-cut-of-requires c κs =
-    let rising = numbers-rule _ (c .before .before .before .before .pre .0) in (
-      record {
-        a-b = rising .a-b;
-        b-c = rising .b-c;
-        c-d = rising .c-d;
-        d-unit = omega arith;
-        units-positive = omega arith;
-        den-positive = omega arith;
-        den-bounded = omega arith;
-      },
-      c .before .before .before .before .pre .1,
-    )
+cut-of-requires c κs = search needs
 
 returns : tie.Need-returns
-returns c = c .cut-of .ensures ∙ cut-whole _ _ _ (c .before .before .before .before .before .pre .1 .n-positive)
+returns c =
+    let start = c .before .before .before .before .before in
+    c .cut-of .ensures ∙ cut-whole billion (lit< tt) (start .args .x) _ _ (start .pre .1 .n-positive)
 
 pub cut-numbers-spec : {M : Type 1} → statement M
 cut-numbers-spec =

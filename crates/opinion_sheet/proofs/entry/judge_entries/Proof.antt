@@ -1,19 +1,19 @@
 -- `opinion_sheet::entry::judge_entries` meets its contract. The loop's invariant: no entry passed has a fault.
--- Assumes nothing.
 use Prim.Native.Nat.{_-_}
 use mathlib.Core.Path.{sym, _∙_}
 use borrow.Author.Needs.{needs}
 use native.Mathlib.Omega.{arith}
-use Rattle.opinion_sheet.specs.Entries.{entry-fault}
-use Rattle.opinion_sheet.proofs.FirstFault.{Passed, passed-none, passed-more, passed-all, passed-found}
+use Rattle.opinion_sheet.specs.EntryRules.{entry-fault}
+use Rattle.theory.specs.Unit.{billion}
+use Rattle.refusals.proofs.FirstFault.{Passed, passed-none, passed-more, passed-all, passed-found}
 use Rattle.opinion_sheet.proofs.entry.judge_entries.Statement.{statement}
 use Rattle.opinion_sheet.proofs.entry.judge_entries.Tie as tie
 
 abbrev Inv-loop : tie.InvT-loop
-Inv-loop sheet events event₀ event = Passed (entry-fault sheet) events event
+Inv-loop file events event₀ event = Passed (entry-fault billion file) events event
 
 abbrev μ-loop : tie.MeasureT-loop
-μ-loop sheet events event₀ event = events - event
+μ-loop file events event₀ event = events - event
 
 loop-holds : tie.Need-loop-holds Inv-loop μ-loop
 loop-holds c = passed-none _ _

@@ -1,6 +1,5 @@
 -- `opinion_sheet::entry::judge_entry` meets its contract: each return rewrites with the tests of the kind that led
 -- there.
--- Assumes nothing.
 use mathlib.Core.Path.{sym, _∙_}
 use borrow.Author.Tests.{eq-eqb, ne-eqb}
 use borrow.Author.Needs.{needs}
@@ -35,11 +34,16 @@ returns-2 c =
     rw (ne-eqb _ _ (λ e. after-if1 .if1 .left (kind ∙ e)), eq-eqb _ _ (sym kind ∙ c .before .if2 .taken))
     (c .judge-opinions .ensures)
 
+broken-requires : tie.Need-broken-requires
+broken-requires c κs = search needs
+
 returns-3 : tie.Need-returns-3
 returns-3 c =
-    let after-byte-at = c .before .before in
+    let after-if1 = c .before .before in
+    let after-byte-at = c .before .before .before in
     let kind = after-byte-at .byte-at .ensures .0 in
-    rw (ne-eqb _ _ (λ e. c .before .if1 .left (kind ∙ e)), ne-eqb _ _ (λ e. c .if2 .left (kind ∙ e)))
+    c .broken .ensures
+    ∙ rw (ne-eqb _ _ (λ e. after-if1 .if1 .left (kind ∙ e)), ne-eqb _ _ (λ e. c .before .if2 .left (kind ∙ e)))
 
 pub judge-entry-spec : {M : Type 1} → statement M
 judge-entry-spec =
@@ -52,4 +56,5 @@ judge-entry-spec =
     returns
     judge-opinions-requires
     returns-2
+    broken-requires
     returns-3)

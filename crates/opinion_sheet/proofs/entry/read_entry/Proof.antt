@@ -1,5 +1,4 @@
 -- `opinion_sheet::entry::read_entry` meets its contract: by whether the kind byte is 0.
--- Assumes nothing.
 use mathlib.Core.Path.{ap, sym, _∙_}
 use borrow.Author.Tests.{eq-eqb, ne-eqb}
 use borrow.Author.Needs.{needs}

@@ -1,52 +1,51 @@
 -- `opinion_sheet::entry::read_numbers` meets its contract: the four reads are its four fields.
--- Assumes nothing.
 use borrow.Author.Needs.{needs}
 use Rattle.opinion_sheet.proofs.entry.read_numbers.Statement.{statement}
 use Rattle.opinion_sheet.proofs.entry.read_numbers.Tie as tie
 
-add-read32 : tie.Need-add-read32
-add-read32 c = search needs
+add-field32-at : tie.Need-add-field32-at
+add-field32-at c = search needs
 
-read32-requires : tie.Need-read32-requires
-read32-requires c κs = search needs
+field32-at-requires : tie.Need-field32-at-requires
+field32-at-requires c κs = search needs
 
-add-read32-2 : tie.Need-add-read32-2
-add-read32-2 c = search needs
+add-field32-at-2 : tie.Need-add-field32-at-2
+add-field32-at-2 c = search needs
 
-read32-requires-2 : tie.Need-read32-requires-2
-read32-requires-2 c κs = search needs
+field32-at-requires-2 : tie.Need-field32-at-requires-2
+field32-at-requires-2 c κs = search needs
 
-add-read32-3 : tie.Need-add-read32-3
-add-read32-3 c = search needs
+add-field32-at-3 : tie.Need-add-field32-at-3
+add-field32-at-3 c = search needs
 
-read32-requires-3 : tie.Need-read32-requires-3
-read32-requires-3 c κs = search needs
+field32-at-requires-3 : tie.Need-field32-at-requires-3
+field32-at-requires-3 c κs = search needs
 
-add-read32-4 : tie.Need-add-read32-4
-add-read32-4 c = search needs
+add-field32-at-4 : tie.Need-add-field32-at-4
+add-field32-at-4 c = search needs
 
-read32-requires-4 : tie.Need-read32-requires-4
-read32-requires-4 c κs = search needs
+field32-at-requires-4 : tie.Need-field32-at-requires-4
+field32-at-requires-4 c κs = search needs
 
 returns : tie.Need-returns
 returns c =
     rw (
-      c .before .before .before .read32 .ensures,
-      c .before .before .read322 .ensures,
-      c .before .read323 .ensures,
-      c .read324 .ensures,
+      c .before .before .before .field32-at .ensures,
+      c .before .before .field32-at2 .ensures,
+      c .before .field32-at3 .ensures,
+      c .field32-at4 .ensures,
     )
 
 pub read-numbers-spec : {M : Type 1} → statement M
 read-numbers-spec =
     tie.close
     (tie.spec
-    add-read32
-    read32-requires
-    add-read32-2
-    read32-requires-2
-    add-read32-3
-    read32-requires-3
-    add-read32-4
-    read32-requires-4
+    add-field32-at
+    field32-at-requires
+    add-field32-at-2
+    field32-at-requires-2
+    add-field32-at-3
+    field32-at-requires-3
+    add-field32-at-4
+    field32-at-requires-4
     returns)

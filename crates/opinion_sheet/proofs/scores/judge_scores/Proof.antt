@@ -1,39 +1,24 @@
 -- `opinion_sheet::scores::judge_scores` meets its contract. The loop's invariant: no score passed has a fault.
--- Assumes nothing.
-use Prim.Native.Nat.{ℕ, _-_}
-use mathlib.Core.Path.{_≡_, sym, _∙_, ap₂}
+use Prim.Native.Nat.{_-_}
+use mathlib.Core.Path.{_∙_}
+use mathlib.Core.Logic.{⊎-elim}
 use denote.Ref.{now}
 use borrow.Author.Needs.{needs}
-use borrow.Author.Tests.{not-true, not-false}
 use native.Mathlib.Omega.{arith}
-use Rattle.opinion_sheet.specs.Format.{expert-count, score-of}
-use Rattle.opinion_sheet.specs.Scores.{score-fault, score-good}
-use Rattle.opinion_sheet.proofs.FirstFault.{Passed, passed-none, passed-more, passed-all, passed-found}
-use Rattle.opinion_sheet.proofs.FirstFault.{unless-true, unless-false}
+use Rattle.refusals.proofs.FirstFault.{Passed, passed-none, passed-all}
+use Rattle.opinion_sheet.specs.ScoreRules.{score-fault}
+use Rattle.opinion_sheet.proofs.ScoreLaws.{listed-passed, listed-wrong, after-passed, after-wrong}
 use Rattle.opinion_sheet.proofs.scores.judge_scores.Statement.{statement}
 use Rattle.opinion_sheet.proofs.scores.judge_scores.Tie as tie
 
 abbrev Inv-loop : tie.InvT-loop
-Inv-loop sheet experts expert₀ expert = Passed (score-fault sheet) 16 expert
+Inv-loop file experts expert₀ expert = Passed (score-fault file) 16 expert
 
 abbrev μ-loop : tie.MeasureT-loop
-μ-loop sheet experts expert₀ expert = 16 - expert
+μ-loop file experts expert₀ expert = 16 - expert
 
--- What was judged is the score of the expert that the loop is at.
-judged-score : (c : tie.After-score-good Inv-loop μ-loop)
-    → let s = now (c .before .before .before .before .before .before .args .sheet) in
-    let expert = c .before .before .before .loop .expert in
-    score-good (expert-count s) expert (score-of s expert) ≡ c .score-good .result
-judged-score c =
-    let head = c .before .before .before in
-    let after-byte-at = c .before .before .before .before in
-    sym
-    (c .score-good .ensures
-    ∙ ap₂ (λ (x y : ℕ). score-good x (head .loop .expert) y) (after-byte-at .byte-at .ensures .0)
-    (c .before .byte-at2 .ensures .0))
-
-byte-at-requires : tie.Need-byte-at-requires Inv-loop μ-loop
-byte-at-requires c κs = search needs
+expert-count-requires : tie.Need-expert-count-requires Inv-loop μ-loop
+expert-count-requires c κs = search needs
 
 loop-holds : tie.Need-loop-holds Inv-loop μ-loop
 loop-holds c = passed-none _ 16
@@ -41,23 +26,29 @@ loop-holds c = passed-none _ 16
 add-byte-at : tie.Need-add-byte-at Inv-loop μ-loop
 add-byte-at c = omega arith
 
-byte-at-requires-2 : tie.Need-byte-at-requires-2 Inv-loop μ-loop
-byte-at-requires-2 c κs = omega arith
+byte-at-requires : tie.Need-byte-at-requires Inv-loop μ-loop
+byte-at-requires c κs = omega arith
 
-cast-score-good : tie.Need-cast-score-good Inv-loop μ-loop
-cast-score-good c = omega arith
+in-range-requires : tie.Need-in-range-requires Inv-loop μ-loop
+in-range-requires c κs = search needs
 
-score-good-requires : tie.Need-score-good-requires Inv-loop μ-loop
-score-good-requires c κs = search needs
+add-broken : tie.Need-add-broken Inv-loop μ-loop
+add-broken c = omega arith
 
-add-t9 : tie.Need-add-t9 Inv-loop μ-loop
-add-t9 c = omega arith
+broken-requires : tie.Need-broken-requires Inv-loop μ-loop
+broken-requires c κs = search needs
 
 returns : tie.Need-returns Inv-loop μ-loop
-returns c =
-    let head = c .before .before .before .before in
-    passed-found (head .loop .inv) (omega arith)
-    (sym (unless-false _ _ (judged-score (c .before) ∙ not-true _ (c .if1 .taken))))
+returns c = c .broken .ensures ∙ search (needs, listed-wrong)
+
+add-broken-2 : tie.Need-add-broken-2 Inv-loop μ-loop
+add-broken-2 c = omega arith
+
+broken-requires-2 : tie.Need-broken-requires-2 Inv-loop μ-loop
+broken-requires-2 c κs = search needs
+
+returns-2 : tie.Need-returns-2 Inv-loop μ-loop
+returns-2 c = c .broken2 .ensures ∙ search (needs, after-wrong)
 
 add-expert : tie.Need-add-expert Inv-loop μ-loop
 add-expert c = omega arith
@@ -67,12 +58,18 @@ loop-less c = omega arith
 
 loop-again : tie.Need-loop-again Inv-loop μ-loop
 loop-again c =
-    let head = c .before .before .before .before in
-    passed-more (head .loop .inv) (omega arith)
-    (sym (unless-true _ _ (judged-score (c .before) ∙ not-false _ (c .if1 .left))))
+    let read = c .before in
+    let file = now (read .before .before .before .before .before .args .file) in
+    let inv = read .before .before .loop .inv in
+    let experts = read .before .before .before .expert-count .ensures .0 in
+    let given = read .byte-at .ensures .0 in
+    ⊎-elim
+    (λ w. listed-passed file inv (omega arith) _ _ experts given (w .0 .taken) _ (w .1 .ensures) (w .2 .left))
+    (λ w. after-passed file inv (omega arith) _ _ experts given (w .0 .left) (w .1 .left))
+    (c .if1 .came)
 
-returns-2 : tie.Need-returns-2 Inv-loop μ-loop
-returns-2 c = passed-all (c .before .loop .inv) (omega arith)
+returns-3 : tie.Need-returns-3 Inv-loop μ-loop
+returns-3 c = passed-all (c .before .loop .inv) (omega arith)
 
 pub judge-scores-spec : {M : Type 1} → statement M
 judge-scores-spec =
@@ -80,15 +77,18 @@ judge-scores-spec =
     (tie.spec
     Inv-loop
     μ-loop
-    byte-at-requires
+    expert-count-requires
     loop-holds
     add-byte-at
-    byte-at-requires-2
-    cast-score-good
-    score-good-requires
-    add-t9
+    byte-at-requires
+    in-range-requires
+    add-broken
+    broken-requires
     returns
+    add-broken-2
+    broken-requires-2
+    returns-2
     add-expert
     loop-less
     loop-again
-    returns-2)
+    returns-3)

@@ -1,134 +1,78 @@
 -- The proof of the cycle of calls {put_decimal}. The measure is the number.
--- Assumes nothing.
 use Prim.Native.Nat.{ℕ, _<_}
 use borrow.Author.Needs.{needs}
-use Rattle.printer.proofs.DecimalTurn.{one-inside, one-put, tenth-falls, tenth-room, last-inside, last-within}
-use Rattle.printer.proofs.DecimalTurn.{last-put}
 use borrow.Fn.Kinds.{In}
 use borrow.Fn.PlainCycle.{Measures, is, falls, and}
-use Rattle.printer.proofs.decimal.put_decimal.Reads as put-decimal
-use Rattle.printer.proofs.decimal.put_decimal.Kinds as put-decimal-kinds
-use Rattle.printer.proofs.decimal.+put_decimal.Lts-put_decimal as put-decimal-lts
-use Rattle.printer.proofs.decimal.digit_of.Reads as digit-of-reads
+use Rattle.printer.proofs.DecimalTurn.{one-inside, one-put, tenth-falls, tenth-room, last-inside, last-within}
+use Rattle.printer.proofs.DecimalTurn.{last-put}
+use Rattle.printer.proofs.decimal.put_decimal.Reads as reads
+use Rattle.printer.proofs.decimal.put_decimal.Kinds as kinds
+use Rattle.printer.proofs.decimal.digit_of.Reads as digit-of
+use Rattle.printer.proofs.decimal.+put_decimal.Lts-put_decimal as lts
 use Rattle.printer.proofs.decimal.+put_decimal.{statement}
 use Rattle.printer.proofs.decimal.+put_decimal.Tie.{close}
 
-abbrev μ-put-decimal : Measures 1 put-decimal-kinds.ps ℕ
-μ-put-decimal κs a = a .0
+abbrev number : Measures 1 kinds.ps ℕ
+number κs a = a .0
 
-abbrev put-decimal-at : ℕ → In 1 put-decimal-kinds.ps
-put-decimal-at t =
-    and 1 put-decimal-kinds.ps (is 1 put-decimal-kinds.ps μ-put-decimal t) put-decimal.Pre
+module _ (t : ℕ) where
+  -- a call at the number t, which may rely on `digit_of` and on calls at smaller numbers
+  abbrev asked : In 1 kinds.ps
+  asked = and 1 kinds.ps (is 1 kinds.ps number t) reads.Pre
 
-abbrev put-decimal-below : ℕ → In 1 put-decimal-kinds.ps
-put-decimal-below t =
-    and 1 put-decimal-kinds.ps (falls 1 put-decimal-kinds.ps _<_ μ-put-decimal t) put-decimal.Pre
+  abbrev claims : lts.Claims
+  claims = (digit-of.Asked, digit-of.Learnt, and 1 kinds.ps (falls 1 kinds.ps _<_ number t) reads.Pre, reads.Post)
 
-put-decimal-digit-of-requires : (t : ℕ) → put-decimal-lts.Need-digit-of-requires (
-  digit-of-reads.Asked,
-  digit-of-reads.Learnt,
-  put-decimal-below t,
-  put-decimal.Post,
-) (put-decimal-at t) put-decimal.Post
-put-decimal-digit-of-requires t c κs = search needs
+  digit-of-requires : lts.Need-digit-of-requires claims asked reads.Post
+  digit-of-requires c κs = search needs
 
-put-decimal-slice-write-draft : (t : ℕ) → put-decimal-lts.Need-slice-write-draft (
-  digit-of-reads.Asked,
-  digit-of-reads.Learnt,
-  put-decimal-below t,
-  put-decimal.Post,
-) (put-decimal-at t) put-decimal.Post
-put-decimal-slice-write-draft t c = search one-inside
+  slice-write-draft : lts.Need-slice-write-draft claims asked reads.Post
+  slice-write-draft c = search one-inside
 
-put-decimal-add-result : (t : ℕ) → put-decimal-lts.Need-add-result (
-  digit-of-reads.Asked,
-  digit-of-reads.Learnt,
-  put-decimal-below t,
-  put-decimal.Post,
-) (put-decimal-at t) put-decimal.Post
-put-decimal-add-result t c = search (needs, one-inside)
+  add-result : lts.Need-add-result claims asked reads.Post
+  add-result c = search (needs, one-inside)
 
-put-decimal-same-length : (t : ℕ) → put-decimal-lts.Need-same-length (
-  digit-of-reads.Asked,
-  digit-of-reads.Learnt,
-  put-decimal-below t,
-  put-decimal.Post,
-) (put-decimal-at t) put-decimal.Post
-put-decimal-same-length t c = search needs
+  same-length : lts.Need-same-length claims asked reads.Post
+  same-length c = search needs
 
-put-decimal-returns : (t : ℕ) → put-decimal-lts.Need-returns (
-  digit-of-reads.Asked,
-  digit-of-reads.Learnt,
-  put-decimal-below t,
-  put-decimal.Post,
-) (put-decimal-at t) put-decimal.Post
-put-decimal-returns t c = search one-put
+  returns : lts.Need-returns claims asked reads.Post
+  returns c = search one-put
 
-put-decimal-put-decimal-requires : (t : ℕ) → put-decimal-lts.Need-put-decimal-requires (
-  digit-of-reads.Asked,
-  digit-of-reads.Learnt,
-  put-decimal-below t,
-  put-decimal.Post,
-) (put-decimal-at t) put-decimal.Post
-put-decimal-put-decimal-requires t c κs = search (needs, tenth-falls, tenth-room)
+  put-decimal-requires : lts.Need-put-decimal-requires claims asked reads.Post
+  put-decimal-requires c κs = search (needs, tenth-falls, tenth-room)
 
-put-decimal-digit-of-requires-2 : (t : ℕ) → put-decimal-lts.Need-digit-of-requires-2 (
-  digit-of-reads.Asked,
-  digit-of-reads.Learnt,
-  put-decimal-below t,
-  put-decimal.Post,
-) (put-decimal-at t) put-decimal.Post
-put-decimal-digit-of-requires-2 t c κs = search needs
+  digit-of-requires-2 : lts.Need-digit-of-requires-2 claims asked reads.Post
+  digit-of-requires-2 c κs = search needs
 
-put-decimal-slice-write-draft-2 : (t : ℕ) → put-decimal-lts.Need-slice-write-draft-2 (
-  digit-of-reads.Asked,
-  digit-of-reads.Learnt,
-  put-decimal-below t,
-  put-decimal.Post,
-) (put-decimal-at t) put-decimal.Post
-put-decimal-slice-write-draft-2 t c = search last-inside
+  slice-write-draft-2 : lts.Need-slice-write-draft-2 claims asked reads.Post
+  slice-write-draft-2 c = search last-inside
 
-put-decimal-add-result-2 : (t : ℕ) → put-decimal-lts.Need-add-result-2 (
-  digit-of-reads.Asked,
-  digit-of-reads.Learnt,
-  put-decimal-below t,
-  put-decimal.Post,
-) (put-decimal-at t) put-decimal.Post
-put-decimal-add-result-2 t c = search last-within
+  add-result-2 : lts.Need-add-result-2 claims asked reads.Post
+  add-result-2 c = search last-within
 
-put-decimal-same-length-2 : (t : ℕ) → put-decimal-lts.Need-same-length-2 (
-  digit-of-reads.Asked,
-  digit-of-reads.Learnt,
-  put-decimal-below t,
-  put-decimal.Post,
-) (put-decimal-at t) put-decimal.Post
-put-decimal-same-length-2 t c = search needs
+  same-length-2 : lts.Need-same-length-2 claims asked reads.Post
+  same-length-2 c = search needs
 
-put-decimal-returns-2 : (t : ℕ) → put-decimal-lts.Need-returns-2 (
-  digit-of-reads.Asked,
-  digit-of-reads.Learnt,
-  put-decimal-below t,
-  put-decimal.Post,
-) (put-decimal-at t) put-decimal.Post
-put-decimal-returns-2 t c = search last-put
+  returns-2 : lts.Need-returns-2 claims asked reads.Post
+  returns-2 c = search last-put
+
+  closed : {M : Type 1} → lts.Closed claims asked reads.Post M
+  closed =
+      lts.spec
+      claims
+      asked
+      reads.Post
+      digit-of-requires
+      slice-write-draft
+      add-result
+      same-length
+      returns
+      put-decimal-requires
+      digit-of-requires-2
+      slice-write-draft-2
+      add-result-2
+      same-length-2
+      returns-2
 
 pub +put-decimal-spec : {M : Type 1} → statement M
-+put-decimal-spec = close μ-put-decimal λ t. put-decimal-lts.spec (
-  digit-of-reads.Asked,
-  digit-of-reads.Learnt,
-  put-decimal-below t,
-  put-decimal.Post,
-)
-    (put-decimal-at t)
-    put-decimal.Post
-    (put-decimal-digit-of-requires t)
-    (put-decimal-slice-write-draft t)
-    (put-decimal-add-result t)
-    (put-decimal-same-length t)
-    (put-decimal-returns t)
-    (put-decimal-put-decimal-requires t)
-    (put-decimal-digit-of-requires-2 t)
-    (put-decimal-slice-write-draft-2 t)
-    (put-decimal-add-result-2 t)
-    (put-decimal-same-length-2 t)
-    (put-decimal-returns-2 t)
++put-decimal-spec {M} = close number (λ t. closed t {M = M})

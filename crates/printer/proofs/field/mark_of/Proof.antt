@@ -1,4 +1,4 @@
--- `printer::field::mark_of` meets its contract. Assumes nothing.
+-- `printer::field::mark_of` meets its contract.
 use borrow.Author.Needs.{needs}
 use Rattle.printer.proofs.field.mark_of.Statement.{statement}
 use Rattle.printer.proofs.field.mark_of.Tie as tie

@@ -1,4 +1,4 @@
--- `printer::field::put_number` meets its contract. Assumes nothing.
+-- `printer::field::put_number` meets its contract.
 use borrow.Author.Needs.{needs}
 use Rattle.printer.proofs.Fields.{field-room, after-inside, after-within, after-put}
 use Rattle.printer.proofs.field.put_number.Statement.{statement}

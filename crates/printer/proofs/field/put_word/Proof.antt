@@ -1,4 +1,4 @@
--- `printer::field::put_word` meets its contract. Assumes nothing.
+-- `printer::field::put_word` meets its contract.
 use borrow.Author.Needs.{needs}
 use Rattle.printer.proofs.Fields.{word-fits, word-inside, word-ended}
 use Rattle.printer.proofs.field.put_word.Statement.{statement}

@@ -1,4 +1,4 @@
--- `printer::input::required_length` meets its contract. Assumes nothing.
+-- `printer::input::required_length` meets its contract.
 use borrow.Author.Needs.{needs}
 use Rattle.printer.proofs.input.required_length.Statement.{statement}
 use Rattle.printer.proofs.input.required_length.Tie as tie

@@ -1,4 +1,4 @@
--- `printer::levels::outcome_at` meets its contract. Assumes nothing.
+-- `printer::levels::outcome_at` meets its contract.
 use borrow.Author.Needs.{needs}
 use Rattle.printer.proofs.Answers.{outcome-read}
 use Rattle.printer.proofs.levels.outcome_at.Statement.{statement}

@@ -1,5 +1,6 @@
--- `printer::levels::put_level_at` meets its contract. Assumes nothing.
+-- `printer::levels::put_level_at` meets its contract.
 use borrow.Author.Needs.{needs}
+use Rattle.printer.proofs.Lines.{level-room, level-end}
 use Rattle.printer.proofs.Answers.{refused-never, line-met}
 use Rattle.printer.proofs.levels.put_level_at.Statement.{statement}
 use Rattle.printer.proofs.levels.put_level_at.Tie as tie
@@ -17,13 +18,13 @@ returns : tie.Need-returns
 returns c = absurd (search refused-never)
 
 put-level-requires : tie.Need-put-level-requires
-put-level-requires c κs = search needs
+put-level-requires c κs = search level-room
 
 same-length : tie.Need-same-length
 same-length c = search needs
 
 returns-2 : tie.Need-returns-2
-returns-2 c = search line-met
+returns-2 c = (search line-met, search level-end)
 
 pub put-level-at-spec : {M : Type 1} → statement M
 put-level-at-spec =

@@ -1,13 +1,14 @@
--- `printer::levels::put_levels` meets its contract: `Printing` holds at each turn. Assumes nothing.
+-- `printer::levels::put_levels` meets its contract: `Printing` holds at each turn.
 use borrow.Author.Needs.{needs}
-use Rattle.printer.proofs.LevelsTurn.{Printing, count-fits, printing-starts, line-room, level-most}
+use Rattle.monitor.specs.Standing.{held-tree, held-sheet}
+use Rattle.printer.proofs.LevelsTurn.{Printing, count-fits, printing-starts, line-room, level-within}
 use Rattle.printer.proofs.LevelsTurn.{printing-goes, printing-ends}
 use Rattle.printer.proofs.levels.put_levels.Statement.{statement}
 use Rattle.printer.proofs.levels.put_levels.Tie as tie
 
 abbrev Inv-loop : tie.InvT-loop
 Inv-loop state tree-store sheet-store n draft₀ place end₀ left₀ draft end left =
-    Printing state tree-store sheet-store n draft₀ place draft end left
+    Printing (held-tree state tree-store) (held-sheet state sheet-store) n draft₀ place draft end left
 
 abbrev μ-loop : tie.MeasureT-loop
 μ-loop state tree-store sheet-store n draft₀ place end₀ left₀ draft end left = left
@@ -22,7 +23,7 @@ sub-left : tie.Need-sub-left Inv-loop μ-loop
 sub-left c = search needs
 
 put-level-at-requires : tie.Need-put-level-at-requires Inv-loop μ-loop
-put-level-at-requires c κs = search (line-room, level-most)
+put-level-at-requires c κs = search (line-room, level-within)
 
 loop-less : tie.Need-loop-less Inv-loop μ-loop
 loop-less c = search needs

@@ -1,6 +1,8 @@
--- `printer::line::put_header` meets its contract. Assumes nothing.
+-- `printer::line::put_header` meets its contract.
 use borrow.Author.Needs.{needs}
-use Rattle.printer.proofs.Lines.{header-room, header-next, header-put, header-end}
+use Rattle.printer.specs.Line.{ended, tree-word}
+use Rattle.printer.proofs.Puts.{front-room, next-room, both-put}
+use Rattle.printer.proofs.Lines.{header-parts}
 use Rattle.printer.proofs.line.put_header.Statement.{statement}
 use Rattle.printer.proofs.line.put_header.Tie as tie
 
@@ -8,16 +10,16 @@ slice-aggregate-put-labelled : tie.Need-slice-aggregate-put-labelled
 slice-aggregate-put-labelled c = search needs
 
 put-labelled-requires : tie.Need-put-labelled-requires
-put-labelled-requires c κs = search header-room
+put-labelled-requires c κs = search (front-room (ended tree-word 32))
 
 put-counts-requires : tie.Need-put-counts-requires
-put-counts-requires c κs = search header-next
+put-counts-requires c κs = search (next-room, header-parts)
 
 same-length : tie.Need-same-length
 same-length c = search needs
 
 returns : tie.Need-returns
-returns c = search (header-put, header-end)
+returns c = search (both-put, header-parts)
 
 pub put-header-spec : {M : Type 1} → statement M
 put-header-spec =

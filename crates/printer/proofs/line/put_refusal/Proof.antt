@@ -1,14 +1,11 @@
--- `printer::line::put_refusal` meets its contract. Assumes nothing.
+-- `printer::line::put_refusal` meets its contract.
 use borrow.Author.Needs.{needs}
 use Rattle.printer.proofs.Lines.{refusal-room, refusal-next, refusal-put}
 use Rattle.printer.proofs.line.put_refusal.Statement.{statement}
 use Rattle.printer.proofs.line.put_refusal.Tie as tie
 
-refusal-number-requires : tie.Need-refusal-number-requires
-refusal-number-requires c κs = search needs
-
-refusal-place-requires : tie.Need-refusal-place-requires
-refusal-place-requires c κs = search needs
+rule-number-requires : tie.Need-rule-number-requires
+rule-number-requires c κs = search needs
 
 slice-aggregate-put-labelled : tie.Need-slice-aggregate-put-labelled
 slice-aggregate-put-labelled c = search needs
@@ -32,8 +29,7 @@ pub put-refusal-spec : {M : Type 1} → statement M
 put-refusal-spec =
     tie.close
     (tie.spec
-    refusal-number-requires
-    refusal-place-requires
+    rule-number-requires
     slice-aggregate-put-labelled
     put-labelled-requires
     slice-aggregate-put-labelled-2

@@ -1,4 +1,4 @@
--- `printer::print::print_levels` meets its contract. Assumes nothing.
+-- `printer::print::print_levels` meets its contract.
 use borrow.Author.Needs.{needs}
 use Rattle.printer.proofs.Finishing.{text-inside, text-most, front-counted, too-short-answer, too-short-buffer}
 use Rattle.printer.proofs.Finishing.{front-fits, complete-answer, complete-buffer}

@@ -1,6 +1,7 @@
--- `printer::print::put_held` meets its contract. Assumes nothing.
+-- `printer::print::put_held` meets its contract.
 use borrow.Author.Needs.{needs}
-use Rattle.printer.proofs.Asking.{question-refused, ready-at, number-inside, levels-room, levels-put}
+use Rattle.printer.proofs.Lines.{header-room, levels-room}
+use Rattle.printer.proofs.Holding.{question-refused, held-ready, levels-put}
 use Rattle.printer.proofs.print.put_held.Statement.{statement}
 use Rattle.printer.proofs.print.put_held.Tie as tie
 
@@ -16,14 +17,11 @@ put-refusal-requires c κs = search needs
 enum-known-standing-2 : tie.Need-enum-known-standing-2
 enum-known-standing-2 c = search needs
 
-field-at-requires : tie.Need-field-at-requires
-field-at-requires c κs = search number-inside
-
 put-header-requires : tie.Need-put-header-requires
-put-header-requires c κs = search needs
+put-header-requires c κs = search header-room
 
 put-levels-requires : tie.Need-put-levels-requires
-put-levels-requires c κs = search (ready-at, levels-room)
+put-levels-requires c κs = (search held-ready, search levels-room)
 
 same-length : tie.Need-same-length
 same-length c = search needs
@@ -45,7 +43,6 @@ put-held-spec =
     enum-known-standing
     put-refusal-requires
     enum-known-standing-2
-    field-at-requires
     put-header-requires
     put-levels-requires
     same-length

@@ -1,4 +1,4 @@
--- `printer::print::put_with_both` meets its contract. Assumes nothing.
+-- `printer::print::put_with_both` meets its contract.
 use borrow.Author.Needs.{needs}
 use Rattle.printer.proofs.Holding.{tree-refused, tree-held}
 use Rattle.printer.proofs.print.put_with_both.Statement.{statement}

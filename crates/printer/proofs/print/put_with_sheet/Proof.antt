@@ -1,4 +1,4 @@
--- `printer::print::put_with_sheet` meets its contract. Assumes nothing.
+-- `printer::print::put_with_sheet` meets its contract.
 use borrow.Author.Needs.{needs}
 use Rattle.printer.proofs.Holding.{sheet-refused, sheet-held}
 use Rattle.printer.proofs.print.put_with_sheet.Statement.{statement}

@@ -1,8 +1,7 @@
 -- `judge::judge` meets its contract, from those of the parts.
--- Assumes nothing.
 use borrow.Author.Needs.{needs}
-use Rattle.tree_file.proofs.JudgedParts.{all-accepted, header-long, header-stop, links-refused, records-free}
-use Rattle.tree_file.proofs.JudgedParts.{records-refused, sized}
+use Rattle.tree_file.proofs.JudgedParts.{all-accepted, header-long, header-refused, links-refused}
+use Rattle.tree_file.proofs.JudgedParts.{records-absent, records-refused, sized}
 use Rattle.tree_file.proofs.judge.judge.Statement.{statement}
 use Rattle.tree_file.proofs.judge.judge.Tie as tie
 
@@ -13,13 +12,13 @@ enum-known-header : tie.Need-enum-known-header
 enum-known-header c = search needs
 
 returns : tie.Need-returns
-returns c = search header-stop
+returns c = search header-refused
 
 enum-told : tie.Need-enum-told
 enum-told c = search needs
 
-field-at-requires : tie.Need-field-at-requires
-field-at-requires c κs = search header-long
+node-count-requires : tie.Need-node-count-requires
+node-count-requires c κs = search header-long
 
 judge-records-requires : tie.Need-judge-records-requires
 judge-records-requires c κs = search sized
@@ -34,7 +33,7 @@ returns-2 : tie.Need-returns-2
 returns-2 c = search records-refused
 
 judge-links-requires : tie.Need-judge-links-requires
-judge-links-requires c κs = search (sized, records-free)
+judge-links-requires c κs = search (sized, records-absent)
 
 enum-known-links : tie.Need-enum-known-links
 enum-known-links c = search needs
@@ -56,7 +55,7 @@ judge-spec =
     enum-known-header
     returns
     enum-told
-    field-at-requires
+    node-count-requires
     judge-records-requires
     enum-known-records
     enum-told-2

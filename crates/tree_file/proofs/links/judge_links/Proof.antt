@@ -1,11 +1,9 @@
 -- `links::judge_links` meets its contract. The invariants: the gates passed, and the links passed of this gate, have
 -- no fault, and `named` flags the nodes that the links passed name.
--- Assumes nothing.
 use Prim.Native.Nat.{_-_}
 use borrow.Author.Needs.{needs}
-use Rattle.tree_file.specs.LinkRules.{named}
 use Rattle.tree_file.proofs.LinksTurn.{GatesBefore, LinksBefore, gate-done, gate-start, gates-none, link-more}
-use Rattle.tree_file.proofs.LinksTurn.{linked-before, links-free, not-below}
+use Rattle.tree_file.proofs.LinksTurn.{linked-before, links-passed, not-below}
 use Rattle.tree_file.proofs.links.judge_links.Statement.{statement}
 use Rattle.tree_file.proofs.links.judge_links.Tie as tie
 
@@ -30,20 +28,11 @@ input-count-at-requires c κs = search needs
 links-holds : tie.Need-links-holds Inv-links μ-links Inv-gates μ-gates
 links-holds c = search gate-start
 
-mul-at : tie.Need-mul-at Inv-links μ-links Inv-gates μ-gates
-mul-at c = search needs
-
-add-at : tie.Need-add-at Inv-links μ-links Inv-gates μ-gates
-add-at c = search needs
-
-mul-at-2 : tie.Need-mul-at-2 Inv-links μ-links Inv-gates μ-gates
-mul-at-2 c = search needs
-
-add-at-2 : tie.Need-add-at-2 Inv-links μ-links Inv-gates μ-gates
-add-at-2 c = search needs
-
 link-at-requires : tie.Need-link-at-requires Inv-links μ-links Inv-gates μ-gates
 link-at-requires c κs = search needs
+
+field16-at-requires : tie.Need-field16-at-requires Inv-links μ-links Inv-gates μ-gates
+field16-at-requires c κs = search needs
 
 array-read-if3 : tie.Need-array-read-if3 Inv-links μ-links Inv-gates μ-gates
 array-read-if3 c = search needs
@@ -73,7 +62,7 @@ gates-again : tie.Need-gates-again Inv-links μ-links Inv-gates μ-gates
 gates-again c = search gate-done
 
 returns : tie.Need-returns Inv-links μ-links Inv-gates μ-gates
-returns c = search links-free
+returns c = search links-passed
 
 returns-2 : tie.Need-returns-2 Inv-links μ-links Inv-gates μ-gates
 returns-2 c = search not-below
@@ -92,11 +81,8 @@ judge-links-spec =
     gates-holds
     input-count-at-requires
     links-holds
-    mul-at
-    add-at
-    mul-at-2
-    add-at-2
     link-at-requires
+    field16-at-requires
     array-read-if3
     array-write-named
     add-j

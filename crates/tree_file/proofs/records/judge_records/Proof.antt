@@ -1,9 +1,8 @@
 -- `records::judge_records` meets its contract. The loop's invariant: the records passed have no fault, and the counts
 -- are theirs.
--- Assumes nothing.
 use Prim.Native.Nat.{_-_}
 use borrow.Author.Needs.{needs}
-use Rattle.tree_file.proofs.RecordsTurn.{RecordsBefore, basic-more, gate-more, inputs-missing, records-accepted}
+use Rattle.tree_file.proofs.RecordsTurn.{RecordsBefore, event-more, gate-more, inputs-missing, records-accepted}
 use Rattle.tree_file.proofs.RecordsTurn.{records-none, records-stop}
 use Rattle.tree_file.proofs.records.judge_records.Statement.{statement}
 use Rattle.tree_file.proofs.records.judge_records.Tie as tie
@@ -32,8 +31,8 @@ enum-told c = search needs
 kind-at-requires : tie.Need-kind-at-requires Inv-loop μ-loop
 kind-at-requires c κs = search needs
 
-field-b-at-requires : tie.Need-field-b-at-requires Inv-loop μ-loop
-field-b-at-requires c κs = search needs
+field-at-requires : tie.Need-field-at-requires Inv-loop μ-loop
+field-at-requires c κs = search needs
 
 add-i : tie.Need-add-i Inv-loop μ-loop
 add-i c = search needs
@@ -45,7 +44,7 @@ loop-less : tie.Need-loop-less Inv-loop μ-loop
 loop-less c = search needs
 
 loop-again : tie.Need-loop-again Inv-loop μ-loop
-loop-again c = search basic-more
+loop-again c = search event-more
 
 add-inputs : tie.Need-add-inputs Inv-loop μ-loop
 add-inputs c = search needs
@@ -56,20 +55,17 @@ loop-less-2 c = search needs
 loop-again-2 : tie.Need-loop-again-2 Inv-loop μ-loop
 loop-again-2 c = search gate-more
 
-mul-links-at : tie.Need-mul-links-at Inv-loop μ-loop
-mul-links-at c = search needs
-
-add-links-at : tie.Need-add-links-at Inv-loop μ-loop
-add-links-at c = search needs
-
 sub-if2 : tie.Need-sub-if2 Inv-loop μ-loop
 sub-if2 c = search needs
+
+record-at-requires : tie.Need-record-at-requires Inv-loop μ-loop
+record-at-requires c κs = search needs
 
 returns-2 : tie.Need-returns-2 Inv-loop μ-loop
 returns-2 c = search inputs-missing
 
-field-at-requires : tie.Need-field-at-requires Inv-loop μ-loop
-field-at-requires c κs = search needs
+field16-at-requires : tie.Need-field16-at-requires Inv-loop μ-loop
+field16-at-requires c κs = search needs
 
 returns-3 : tie.Need-returns-3 Inv-loop μ-loop
 returns-3 c = search records-accepted
@@ -86,7 +82,7 @@ judge-records-spec =
     returns
     enum-told
     kind-at-requires
-    field-b-at-requires
+    field-at-requires
     add-i
     add-events
     loop-less
@@ -94,9 +90,8 @@ judge-records-spec =
     add-inputs
     loop-less-2
     loop-again-2
-    mul-links-at
-    add-links-at
     sub-if2
+    record-at-requires
     returns-2
-    field-at-requires
+    field16-at-requires
     returns-3)

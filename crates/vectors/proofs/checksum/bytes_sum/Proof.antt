@@ -1,4 +1,4 @@
--- `vectors::checksum::bytes_sum` is safe and ends. Assumes nothing.
+-- `vectors::checksum::bytes_sum` is safe and ends.
 use Prim.Native.Nat.{_-_}
 use lib.ListN.{length}
 use borrow.Author.Needs.{needs}

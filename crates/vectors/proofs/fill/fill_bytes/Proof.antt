@@ -1,4 +1,4 @@
--- `vectors::fill::fill_bytes` is safe and ends. Assumes nothing.
+-- `vectors::fill::fill_bytes` is safe and ends.
 use Prim.Native.Nat.{_-_}
 use mathlib.Core.Path.{_≡_}
 use lib.ListN.{length}

@@ -1,4 +1,4 @@
--- `vectors::print::print_all_bytes` is safe and ends. Assumes nothing.
+-- `vectors::print::print_all_bytes` is safe and ends.
 use Prim.Native.Nat.{_-_}
 use lib.ListN.{length}
 use borrow.Author.Needs.{needs}

@@ -1,4 +1,4 @@
--- `vectors::print::print_all_marks` is safe and ends. Assumes nothing.
+-- `vectors::print::print_all_marks` is safe and ends.
 use Prim.Native.Nat.{_-_}
 use lib.ListN.{length}
 use borrow.Author.Needs.{needs}
@@ -6,25 +6,25 @@ use Rattle.vectors.proofs.print.print_all_marks.Statement.{statement}
 use Rattle.vectors.proofs.print.print_all_marks.Tie as tie
 
 abbrev Inv-loop : tie.InvT-loop
-Inv-loop marks i₀ t3 i = Unit {0}
+Inv-loop marks i₀ i = Unit {0}
 
 abbrev μ-loop : tie.MeasureT-loop
-μ-loop marks i₀ t3 i = length marks - i
+μ-loop marks i₀ i = length marks - i
 
 loop-holds : tie.Need-loop-holds Inv-loop μ-loop
 loop-holds c = search needs
 
-slice-aggregate-print-text : tie.Need-slice-aggregate-print-text Inv-loop μ-loop
-slice-aggregate-print-text c = search needs
+print-space-requires : tie.Need-print-space-requires Inv-loop μ-loop
+print-space-requires c κs = search needs
 
-print-text-requires : tie.Need-print-text-requires Inv-loop μ-loop
-print-text-requires c κs = search needs
+shared-slice-read-of-byte : tie.Need-shared-slice-read-of-byte Inv-loop μ-loop
+shared-slice-read-of-byte c = search needs
 
-shared-slice-read-print-mark-byte : tie.Need-shared-slice-read-print-mark-byte Inv-loop μ-loop
-shared-slice-read-print-mark-byte c = search needs
+of-byte-requires : tie.Need-of-byte-requires Inv-loop μ-loop
+of-byte-requires c κs = search needs
 
-print-mark-byte-requires : tie.Need-print-mark-byte-requires Inv-loop μ-loop
-print-mark-byte-requires c κs = search needs
+print-decimal-requires : tie.Need-print-decimal-requires Inv-loop μ-loop
+print-decimal-requires c κs = search needs
 
 add-i : tie.Need-add-i Inv-loop μ-loop
 add-i c = search needs
@@ -45,10 +45,10 @@ print-all-marks-spec =
     Inv-loop
     μ-loop
     loop-holds
-    slice-aggregate-print-text
-    print-text-requires
-    shared-slice-read-print-mark-byte
-    print-mark-byte-requires
+    print-space-requires
+    shared-slice-read-of-byte
+    of-byte-requires
+    print-decimal-requires
     add-i
     loop-less
     loop-again

@@ -1,4 +1,4 @@
--- `vectors::print::print_all_units` is safe and ends. Assumes nothing.
+-- `vectors::print::print_all_units` is safe and ends.
 use Prim.Native.Nat.{_-_}
 use lib.ListN.{length}
 use borrow.Author.Needs.{needs}
@@ -6,28 +6,28 @@ use Rattle.vectors.proofs.print.print_all_units.Statement.{statement}
 use Rattle.vectors.proofs.print.print_all_units.Tie as tie
 
 abbrev Inv-loop : tie.InvT-loop
-Inv-loop units i₀ t3 i = Unit {0}
+Inv-loop units i₀ i = Unit {0}
 
 abbrev μ-loop : tie.MeasureT-loop
-μ-loop units i₀ t3 i = length units - i
+μ-loop units i₀ i = length units - i
 
 loop-holds : tie.Need-loop-holds Inv-loop μ-loop
 loop-holds c = search needs
 
-slice-aggregate-print-text : tie.Need-slice-aggregate-print-text Inv-loop μ-loop
-slice-aggregate-print-text c = search needs
+print-space-requires : tie.Need-print-space-requires Inv-loop μ-loop
+print-space-requires c κs = search needs
 
-print-text-requires : tie.Need-print-text-requires Inv-loop μ-loop
-print-text-requires c κs = search needs
+mul-of-units : tie.Need-mul-of-units Inv-loop μ-loop
+mul-of-units c = search needs
 
-mul-print-units : tie.Need-mul-print-units Inv-loop μ-loop
-mul-print-units c = search needs
+shared-slice-read-of-units : tie.Need-shared-slice-read-of-units Inv-loop μ-loop
+shared-slice-read-of-units c = search needs
 
-shared-slice-read-print-units : tie.Need-shared-slice-read-print-units Inv-loop μ-loop
-shared-slice-read-print-units c = search needs
+of-units-requires : tie.Need-of-units-requires Inv-loop μ-loop
+of-units-requires c κs = search needs
 
-print-units-requires : tie.Need-print-units-requires Inv-loop μ-loop
-print-units-requires c κs = search needs
+print-decimal-requires : tie.Need-print-decimal-requires Inv-loop μ-loop
+print-decimal-requires c κs = search needs
 
 add-i : tie.Need-add-i Inv-loop μ-loop
 add-i c = search needs
@@ -48,11 +48,11 @@ print-all-units-spec =
     Inv-loop
     μ-loop
     loop-holds
-    slice-aggregate-print-text
-    print-text-requires
-    mul-print-units
-    shared-slice-read-print-units
-    print-units-requires
+    print-space-requires
+    mul-of-units
+    shared-slice-read-of-units
+    of-units-requires
+    print-decimal-requires
     add-i
     loop-less
     loop-again

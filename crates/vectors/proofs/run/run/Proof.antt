@@ -1,4 +1,4 @@
--- `vectors::run::run` is safe and ends. Assumes nothing.
+-- `vectors::run::run` is safe and ends.
 use mathlib.Core.Path.{_≡_}
 use lib.ListN.{length}
 use borrow.Author.Needs.{needs}
@@ -33,8 +33,8 @@ same-length-2 c = search needs
 returns : tie.Need-returns Inv-loop μ-loop
 returns c = search needs
 
-after-call-requires : tie.Need-after-call-requires Inv-loop μ-loop
-after-call-requires c κs = search needs
+desk-after-requires : tie.Need-desk-after-requires Inv-loop μ-loop
+desk-after-requires c κs = search needs
 
 sub-left : tie.Need-sub-left Inv-loop μ-loop
 sub-left c = search needs
@@ -67,7 +67,7 @@ run-spec =
     same-length
     same-length-2
     returns
-    after-call-requires
+    desk-after-requires
     sub-left
     loop-less
     loop-again

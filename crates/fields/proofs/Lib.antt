@@ -1,0 +1,2 @@
+-- The fields of a part of a file.
+pub mod Parts

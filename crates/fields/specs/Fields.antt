@@ -1,0 +1,22 @@
+-- The numbers that stand in the bytes of a file: unsigned, low byte first.
+use Prim.Native.Nat.{ℕ, _+_, _*_, _<_}
+use mathlib.Core.Path.{_≡_}
+use mathlib.Core.List.{List}
+use lib.ListN.{getD}
+
+-- The byte at an offset, 0 past the end.
+abbrev pub byte : List ℕ → ℕ → ℕ
+byte s at = getD s at 0
+
+-- The 16-bit field at an offset.
+unfoldable pub field16 : List ℕ → ℕ → ℕ
+field16 s at = byte s at + 256 * byte s (at + 1)
+
+-- The 32-bit field at an offset.
+unfoldable pub field32 : List ℕ → ℕ → ℕ
+field32 s at = field16 s at + 65536 * field16 s (at + 2)
+
+-- r is the number x, and a 16-bit one.
+pub record Is16 (r x : ℕ) : Type 0 where
+  pub value : r ≡ x
+  pub small : r < 65536

@@ -1,0 +1,68 @@
+-- The four numbers of each event of a well-formed file rise to at most 1, and can be cut.
+use Prim.Native.Nat.{ℕ, _≤_, _<_}
+use mathlib.Core.Path.{_≡_, refl}
+use mathlib.Core.List.{List}
+use native.Mathlib.Nat.{mul-le-mul-right}
+use native.Mathlib.Omega.{arith}
+use Rattle.theory.specs.Trapezoid.{Rising}
+use Rattle.theory.specs.Opinion.{mean}
+use Rattle.theory.proofs.MeanRising.{mean-rising}
+use Rattle.opinion_sheet.specs.Format.{event-count, expert-count, unit}
+use Rattle.opinion_sheet.specs.EntryRules.{entry-of}
+use Rattle.opinion_sheet.specs.WellFormed.{WellFormed, WellFormedScores, WellFormedOpinions, WellFormedEntry}
+use Rattle.opinion_sheet.specs.Opinion.{opinions-among}
+use Rattle.opinion_sheet.specs.EventCut.{entry-trapezoid, event-trapezoid}
+use Rattle.opinion_sheet.specs.Requirements.{Cuttable}
+use Rattle.opinion_sheet.specs.declared.entry.Entry.{Entry}
+use Rattle.opinion_sheet.specs.declared.entry.Entry.the-variants as entry
+use Rattle.opinion_sheet.proofs.EntryLaws.{entry-numbers, entry-opinions}
+use Rattle.opinion_sheet.proofs.MeanOfOpinions.{spoken-most, spoken-least}
+
+module _ (file : List ℕ) (U : ℕ) (units : 0 < U) (scores : WellFormedScores file) where
+  -- Somebody with a score spoke.
+  opinions-rising : (terms : ℕ) → WellFormedOpinions file terms
+      → Rising (mean (opinions-among file terms (expert-count file)))
+  opinions-rising terms w =
+      let one = w .speaker in
+      mean-rising (opinions-among file terms (expert-count file))
+      (omega (
+        arith,
+        spoken-least file terms (one .expert) (expert-count file) (one .listed) (one .spoke),
+        scores .score-least (one .expert) (one .listed),
+      ))
+
+  -- The mean of opinions can be cut.
+  pub opinions-cuttable : expert-count file ≤ 16 → (terms : ℕ) → WellFormedOpinions file terms
+      → Cuttable U U (mean (opinions-among file terms (expert-count file)))
+  opinions-cuttable m terms w =
+      let rising = opinions-rising terms w in
+      let most = spoken-most file terms 100 (expert-count file) (scores .score-most) in
+      record {
+        a-b = rising .a-b;
+        b-c = rising .b-c;
+        c-d = rising .c-d;
+        d-unit = omega (arith, mul-le-mul-right U (rising .d-den));
+        units-positive = units;
+        den-positive = rising .positive;
+        den-bounded = omega arith;
+      }
+
+  entry-rising : (e : ℕ) → WellFormedEntry U file e → Rising (event-trapezoid U file e)
+  entry-rising e w = go (entry-of file e) refl
+    where
+      go : (read : Entry) → entry-of file e ≡ read → Rising (entry-trapezoid U file read)
+      go (entry.Numbers x) h =
+          let numbers = entry-numbers file U e w h in
+          record {
+            a-b = numbers .a-b;
+            b-c = numbers .b-c;
+            c-d = numbers .c-d;
+            d-den = numbers .d-unit;
+            positive = units;
+          }
+      go (entry.Opinions terms) h = opinions-rising terms (entry-opinions file U e w h .1)
+
+-- The four numbers of each event of a well-formed file rise.
+pub event-rising : (file : List ℕ) → WellFormed file → (e : ℕ) → e < event-count file
+    → Rising (event-trapezoid (unit file) file e)
+event-rising file w e l = entry-rising file (unit file) (omega arith) (w .scores) e (w .entry e l)

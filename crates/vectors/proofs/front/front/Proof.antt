@@ -1,0 +1,14 @@
+-- `vectors::front::front` is safe and ends, and answers a length that fits.
+use borrow.Author.Needs.{needs}
+use Rattle.vectors.proofs.Counted.{counted-front}
+use Rattle.vectors.proofs.front.front.Statement.{statement}
+use Rattle.vectors.proofs.front.front.Tie as tie
+
+returns : tie.Need-returns
+returns c = search (needs, counted-front)
+
+returns-2 : tie.Need-returns-2
+returns-2 c = search (needs, counted-front)
+
+pub front-spec : {M : Type 1} → statement M
+front-spec = tie.close (tie.spec returns returns-2)
