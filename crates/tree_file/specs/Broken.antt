@@ -1,9 +1,9 @@
--- What is wrong with a tree file: `Breaks file r` says that the file breaks that rule at that place. One clause for each
--- rule of document 01's list, 1 to 9, and no order among them. Judging finds the first of them in document 01's order,
--- and nothing exactly where none is broken: `first-broken` of proofs/Broken.
+-- What is wrong with a tree file: `Breaks file r` says that the file breaks that rule at that place. One clause for
+-- each rule of document 01's list, 1 to 9, and no order among them. Judging finds the first of them in document 01's
+-- order, and nothing exactly where none is broken: `first-broken` of proofs/Broken.
 --
--- A clause says what must be there to be spoken of: the header's fields in a file as long as a header; a length for N nodes
--- where there is a node; records and links where the header, and the length with it, is well-formed.
+-- A clause says what must be there to be spoken of: the header's fields in a file as long as a header; a length for N
+-- nodes where there is a node; records and links where the header, and the length with it, is well-formed.
 use Prim.Native.Nat.{ℕ, _+_, _*_, _≤_, _<_}
 use mathlib.Core.Path.{_≡_}
 use mathlib.Core.Logic.{_⊎_}

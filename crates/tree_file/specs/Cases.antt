@@ -1,5 +1,5 @@
--- Cases computed by the prover: the smallest accepted file, the smallest file for each refusal, the limits, both bytes of
--- each field, and for each two neighbours in document 01's order a file that breaks both rules.
+-- Cases computed by the prover: the smallest accepted file, the smallest file for each refusal, the limits, both
+-- bytes of each field, and for each two neighbours in document 01's order a file that breaks both rules.
 use Prim.Native.Nat.{ℕ, zero, suc}
 use mathlib.Core.Path.{_≡_, refl}
 use mathlib.Core.List.{List, [], _∷_, _++_, map}
