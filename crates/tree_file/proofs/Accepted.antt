@@ -62,7 +62,8 @@ module _ (file : List ℕ) (c : Counts) (e : judged file ≡ Accepted c) where
 
 module _ (file : List ℕ) (w : WellFormed file) where
   -- A gate's links end within the N − 1 links.
-  pub gate-links-end : (i : ℕ) → i < node-count file → 0 < kind file i → field-a file i + field-b file i ≤ link-count file
+  pub gate-links-end : (i : ℕ) → i < node-count file → 0 < kind file i
+      → field-a file i + field-b file i ≤ link-count file
   unfolding inputs-before
   gate-links-end i l g =
       let up-to = inputs-monotone file (suc i) (node-count file) l in
@@ -71,7 +72,8 @@ module _ (file : List ℕ) (w : WellFormed file) where
   link-here : (g k : ℕ) → g < node-count file → k < input-count file g → input-fault file g k ≡ Absent
   link-here g k gl kl =
       let gate = with-input file g k kl in
-      let inside : field-a file g + k < link-count file = omega (arith, gate-links-end g gl gate, gate-inputs file g gate) in
+      let inside : field-a file g + k < link-count file =
+      omega (arith, gate-links-end g gl gate, gate-inputs file g gate) in
       link-absent file g (field-a file g + k)
       (record { below = w .below g k gl kl; new = λ i lt. w .once i (field-a file g + k) lt inside })
 
@@ -83,7 +85,8 @@ module _ (file : List ℕ) (w : WellFormed file) where
   unfolding fault-of
   well-formed-absent =
       let records : records-fault file ≡ Absent =
-      among-absent (record-fault file) (node-count file) (λ i l. record-absent file i (w .node i l) (gate-links-end i l)) in
+      among-absent (record-fault file) (node-count file)
+      (λ i l. record-absent file i (w .node i l) (gate-links-end i l)) in
       let links : links-fault file ≡ Absent =
       among-absent (gate-fault file) (node-count file)
       (λ g gl. among-absent (input-fault file g) (input-count file g) (λ k kl. link-here g k gl kl)) in

@@ -22,7 +22,7 @@ or-false false true e = (refl, e)
 or-false true b e = absurd (true≢false e)
 
 -- A node that none of the first j links names, and the test for it.
-unnamed : (file : List ℕ) (n j : ℕ) → named file n j ≡ false → (i : ℕ) → i < j → link file i ≡ n → ⊥
+pub unnamed : (file : List ℕ) (n j : ℕ) → named file n j ≡ false → (i : ℕ) → i < j → link file i ≡ n → ⊥
 unfolding named
 unnamed file n zero e i lt q = not-suc-le-zero lt
 unnamed file n (suc j) e i lt q =

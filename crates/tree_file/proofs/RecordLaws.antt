@@ -63,20 +63,20 @@ module _ (file : List ℕ) (nodes i k a b events inputs : ℕ) (s : Sized file n
   record-passed h = rw (last-rule, not-false r h)
 
 -- What the tests of the fields say.
-event-facts : (k a b events inputs links : ℕ) → k ≡ 0 → has-fields k a b events inputs links ≡ true
+pub event-facts : (k a b events inputs links : ℕ) → k ≡ 0 → has-fields k a b events inputs links ≡ true
     → (a ≡ events) × (b ≡ 0)
 unfolding has-fields
 event-facts k a b events inputs links z h =
     let both = and-eq-true-iff (eqb a events) (eqb b 0) .0 (rw (eq-eqb k 0 z) at h) in
     (eqb-true a events (both .0), eqb-true b 0 (both .1))
 
-record GateFacts (a b inputs links : ℕ) : Type 0 where
-  least : 1 ≤ b
-  most : b ≤ max-inputs
-  first : a ≡ inputs
-  end : a + b ≤ links
+pub record GateFacts (a b inputs links : ℕ) : Type 0 where
+  pub least : 1 ≤ b
+  pub most : b ≤ max-inputs
+  pub first : a ≡ inputs
+  pub end : a + b ≤ links
 
-gate-facts : (k a b events inputs links : ℕ) → 0 < k → has-fields k a b events inputs links ≡ true
+pub gate-facts : (k a b events inputs links : ℕ) → 0 < k → has-fields k a b events inputs links ≡ true
     → GateFacts a b inputs links
 unfolding has-fields
 gate-facts k a b events inputs links g h =

@@ -1,4 +1,5 @@
--- Cases computed by the prover: the smallest accepted file, the smallest file for each refusal, and the limits.
+-- Cases computed by the prover: the smallest accepted file, the smallest file for each refusal, the limits, both
+-- bytes of each field, and for each two neighbours in document 01's order a file that breaks both rules.
 use Prim.Native.Nat.{ℕ, zero, suc}
 use mathlib.Core.Path.{_≡_, refl}
 use mathlib.Core.List.{List, [], _∷_, _++_, map}
@@ -92,6 +93,35 @@ cases =
     -- 16 inputs are accepted, 17 are not
     ∷ record { file = header 17 ++ events 16 ++ node 1 0 16 ++ to-events 16; expected = accepted 7 17 16 }
     ∷ record { file = header 18 ++ events 17 ++ node 1 0 17 ++ to-events 17; expected = refused 7 94 }
+    -- the tree number is read from bytes 5 and 6: 2 + 256 × 3, and the highest
+    ∷ record { file = 70 ∷ 84 ∷ 70 ∷ 1 ∷ 0 ∷ 2 ∷ 3 ∷ 1 ∷ 0 ∷ node 0 0 0; expected = accepted 770 1 1 }
+    ∷ record { file = 70 ∷ 84 ∷ 70 ∷ 1 ∷ 0 ∷ 255 ∷ 255 ∷ 1 ∷ 0 ∷ node 0 0 0; expected = accepted 65535 1 1 }
+    -- the high bytes of a, b and a link count: an event number 256, a b of 257, a link to node 256
+    ∷ record { file = header 1 ++ 0 ∷ 0 ∷ 1 ∷ 0 ∷ 0 ∷ []; expected = refused 7 9 }
+    ∷ record { file = header 2 ++ node 0 0 0 ++ (1 ∷ 0 ∷ 0 ∷ 1 ∷ 1 ∷ []) ++ to 0; expected = refused 7 14 }
+    ∷ record { file = header 2 ++ node 0 0 0 ++ node 1 0 1 ++ 0 ∷ 1 ∷ []; expected = refused 8 19 }
+    -- 1 and 2: eight bytes, with the letters of a sheet
+    ∷ record { file = 70 ∷ 84 ∷ 83 ∷ 1 ∷ 0 ∷ 7 ∷ 0 ∷ 1 ∷ []; expected = refused 1 8 }
+    -- 2 and 3: those letters and version 2
+    ∷ record { file = 70 ∷ 84 ∷ 83 ∷ 2 ∷ 0 ∷ 7 ∷ 0 ∷ 1 ∷ 0 ∷ []; expected = refused 2 0 }
+    -- 3 and 4: version 2 and no node
+    ∷ record { file = header-with 2 0 0 0; expected = refused 3 3 }
+    -- 4 and 5: 1,025 nodes and a byte behind the header
+    ∷ record { file = header-with 1 0 1 4 ++ 0 ∷ []; expected = refused 4 7 }
+    -- 5 and 6: a byte too many, and kind 3
+    ∷ record { file = header 1 ++ node 3 0 0 ++ 0 ∷ []; expected = refused 5 15 }
+    -- 6 and 7 of one record: kind 3, and an a and a b that no kind has here
+    ∷ record { file = header 1 ++ node 3 9 9; expected = refused 6 9 }
+    -- two records, rising: 7 at the first and 6 at the second, and the other way
+    ∷ record { file = header 2 ++ node 0 1 0 ++ node 3 0 0 ++ to 0; expected = refused 7 9 }
+    ∷ record { file = header 2 ++ node 3 0 0 ++ node 0 1 0 ++ to 0; expected = refused 6 9 }
+    -- the last record and the sum
+    ∷ record { file = header 2 ++ node 0 0 0 ++ node 0 5 0 ++ to 0; expected = refused 7 14 }
+    -- the sum and the first link, which is not below its gate: both at 24
+    ∷ record { file = header 3 ++ node 0 0 0 ++ node 0 1 0 ++ node 1 0 1 ++ to 2 ++ to 0; expected = refused 7 24 }
+    -- 8 at the first link, 9 at the second; then 8 at the first, both at the second
+    ∷ record { file = header 3 ++ node 0 0 0 ++ node 1 0 1 ++ node 1 1 1 ++ to 1 ++ to 1; expected = refused 8 24 }
+    ∷ record { file = header 3 ++ node 0 0 0 ++ node 1 0 1 ++ node 1 1 1 ++ to 2 ++ to 2; expected = refused 8 24 }
     ∷ []
 
 -- Each file gets its answer.

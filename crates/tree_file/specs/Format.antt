@@ -1,4 +1,5 @@
--- The tree file's format: where each field stands, how wide it is, and what its limits are.
+-- The tree file's format: where each field stands, how wide it is, and what its limits are. A byte behind the end
+-- reads as 0; rules 1 and 5 refuse a file before such a byte counts.
 use Prim.Native.Nat.{ℕ, _+_, _-_, _*_}
 use mathlib.Core.Bool.{Bool, _&&_}
 use mathlib.Core.List.{List}
@@ -71,7 +72,8 @@ tree-number file = field16 file number-place
 abbrev pub node-count : List ℕ → ℕ
 node-count file = field16 file nodes-place
 
--- The number of links, N − 1: the root alone has none to it. Where N is 0 the file is refused before this counts.
+-- The number of links, N − 1: the root alone has none to it. Where N is 0, and the subtraction stops, rule 4 refuses
+-- the file before this counts.
 abbrev pub link-count : List ℕ → ℕ
 link-count file = node-count file - 1
 

@@ -22,7 +22,7 @@ abbrev pub judged-by : FirstFault → Counts → Judgement
 judged-by (Found r) counts = Refused r
 judged-by Absent counts = Accepted counts
 
--- What the records and the sum of b answer.
+-- What the records and the sum of b answer: the inner contract of `judge_records`, which also counts.
 abbrev pub records-judged : List ℕ → Judgement
 records-judged file = judged-by (first-of (records-fault file ∷ sum-fault file ∷ [])) (counts-of file)
 

@@ -14,7 +14,7 @@ use Rattle.tree_file.specs.declared.node.Node.{Node}
 use Rattle.tree_file.specs.declared.node.GateKind.the-variants.{All, Any}
 use Rattle.tree_file.specs.declared.node.Node.the-variants.{Event, Gate}
 
--- The kind of gate that a kind byte says.
+-- The kind of gate that a kind byte says. Only 1 and 2 come here: 0 is a basic event, and rule 6 refuses the others.
 abbrev pub gate-kind : ℕ → GateKind
 gate-kind k = cond (eqb k and-kind) All Any
 
@@ -29,7 +29,8 @@ abbrev pub kind-as : GateKind → theory.GateKind
 kind-as All = theory.all
 kind-as Any = theory.any
 
--- A node as the theory has it, which counts the inputs beyond the first: a gate has at least one.
+-- A node as the theory has it, which counts the inputs beyond the first. A gate has at least one by rule 7, so the
+-- subtraction never stops at 0.
 abbrev pub node-as : Node → table.Node
 node-as (Event e) = event e
 node-as (Gate g) = joint (kind-as (g .kind)) (g .first) (g .inputs - 1)

@@ -18,7 +18,8 @@ is-event a b events = eqb a events && eqb b 0
 abbrev pub is-gate : ℕ → ℕ → ℕ → ℕ → Bool
 is-gate a b inputs links = leb 1 b && leb b max-inputs && eqb a inputs && leb (a + b) links
 
--- Fields a and b of a record of kind k, with so many basic events and inputs of gates before it.
+-- Fields a and b of a record of kind k, with so many basic events and inputs of gates before it. An unknown kind is
+-- taken for a gate here, but rule 6 comes first and refuses it.
 unfoldable pub has-fields : ℕ → ℕ → ℕ → ℕ → ℕ → ℕ → Bool
 has-fields k a b events inputs links = cond (eqb k event-kind) (is-event a b events) (is-gate a b inputs links)
 

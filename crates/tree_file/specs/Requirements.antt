@@ -1,4 +1,5 @@
--- What functions ask of their arguments.
+-- What functions ask of their arguments: `HasLink` of whoever reads links, the rest between the functions of this
+-- crate.
 use Prim.Native.Nat.{ℕ, _+_, _*_, _≤_}
 use mathlib.Core.Path.{_≡_}
 use mathlib.Core.List.{List}

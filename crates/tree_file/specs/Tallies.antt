@@ -9,7 +9,7 @@ use Rattle.tree_file.specs.Format.{event-kind, field-b, kind, node-count
 abbrev pub is-basic : List ℕ → ℕ → Bool
 is-basic file i = eqb (kind file i) event-kind
 
--- The number of inputs of node i: b of a gate, none of a basic event.
+-- The number of inputs of node i: b of a gate, none of a basic event. Rule 6 refuses any other kind.
 unfoldable pub input-count : List ℕ → ℕ → ℕ
 input-count file i = cond (is-basic file i) 0 (field-b file i)
 
