@@ -19,7 +19,7 @@ use Rattle.opinion_sheet.proofs.HeaderLaws.{both-hold}
 use Rattle.opinion_sheet.proofs.TermLaws.{opinions-well-formed, opinions-absent}
 
 module _ (U : ℕ) (x : Numbers) where
-  numbers-say : numbers-rule U x ≡ true → WellFormedNumbers U x
+  pub numbers-say : numbers-rule U x ≡ true → WellFormedNumbers U x
   numbers-say h =
       let top = both-hold (leb (x .a) (x .b) && leb (x .b) (x .c) && leb (x .c) (x .d)) (leb (x .d) U) h in
       let upper = both-hold (leb (x .a) (x .b) && leb (x .b) (x .c)) (leb (x .c) (x .d)) (top .0) in
@@ -31,7 +31,7 @@ module _ (U : ℕ) (x : Numbers) where
         d-unit = leb-true _ _ (top .1);
       }
 
-  numbers-hold : WellFormedNumbers U x → numbers-rule U x ≡ true
+  pub numbers-hold : WellFormedNumbers U x → numbers-rule U x ≡ true
   numbers-hold w =
       rw (
         le-leb (x .a) (x .b) (w .a-b),

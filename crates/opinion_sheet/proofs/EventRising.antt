@@ -5,7 +5,7 @@ use mathlib.Core.List.{List}
 use native.Mathlib.Nat.{mul-le-mul-right}
 use native.Mathlib.Omega.{arith}
 use Rattle.theory.specs.Trapezoid.{Rising}
-use Rattle.theory.specs.Opinion.{mean}
+use Rattle.theory.specs.Opinion.{mean, spoken}
 use Rattle.theory.proofs.MeanRising.{mean-rising}
 use Rattle.opinion_sheet.specs.Format.{event-count, expert-count, unit}
 use Rattle.opinion_sheet.specs.EntryRules.{entry-of}
@@ -18,18 +18,22 @@ use Rattle.opinion_sheet.specs.declared.entry.Entry.the-variants as entr
 use Rattle.opinion_sheet.proofs.EntryLaws.{entry-numbers, entry-opinions}
 use Rattle.opinion_sheet.proofs.MeanOfOpinions.{spoken-most, spoken-least}
 
+-- Somebody with a score spoke.
+pub opinions-spoken : (file : List ℕ) → WellFormedScores file → (terms : ℕ) → WellFormedOpinions file terms
+    → 1 ≤ spoken (opinions-among file terms (expert-count file))
+opinions-spoken file scores terms w =
+    let one = w .speaker in
+    omega (
+      arith,
+      spoken-least file terms (one .expert) (expert-count file) (one .listed) (one .spoke),
+      scores .score-least (one .expert) (one .listed),
+    )
+
 module _ (file : List ℕ) (U : ℕ) (units : 0 < U) (scores : WellFormedScores file) where
-  -- Somebody with a score spoke.
   opinions-rising : (terms : ℕ) → WellFormedOpinions file terms
       → Rising (mean (opinions-among file terms (expert-count file)))
   opinions-rising terms w =
-      let one = w .speaker in
-      mean-rising (opinions-among file terms (expert-count file))
-      (omega (
-        arith,
-        spoken-least file terms (one .expert) (expert-count file) (one .listed) (one .spoke),
-        scores .score-least (one .expert) (one .listed),
-      ))
+      mean-rising (opinions-among file terms (expert-count file)) (opinions-spoken file scores terms w)
 
   -- The mean of opinions can be cut.
   pub opinions-cuttable : expert-count file ≤ 16 → (terms : ℕ) → WellFormedOpinions file terms

@@ -41,7 +41,7 @@ header-well-formed file h =
       version-value = eqb-true _ _ (unless-holds _ _ _ (rules .1 .1 .0));
       events-least = events .0;
       events-most = events .1;
-      experts-most = leb-true _ _ (unless-holds _ _ _ (rules .1 .1 .1 .1 .0));
+      experts-most = within-says 0 16 (expert-count file) (unless-holds _ _ _ (rules .1 .1 .1 .1 .0)) .1;
       length-value = eqb-true _ _ (unless-holds _ _ _ (rules .1 .1 .1 .1 .1 .0));
     }
 
@@ -53,7 +53,7 @@ header-absent file w =
       w .letters,
       eq-eqb _ _ (w .version-value),
       within-holds 1 1024 (event-count file) (w .events-least) (w .events-most),
-      le-leb _ _ (w .experts-most),
+      within-holds 0 16 (expert-count file) (omega arith) (w .experts-most),
       eq-eqb _ _ (w .length-value),
     )
 
@@ -91,15 +91,17 @@ module _ (file : List ℕ) (long : 26 ≤ length file) (lettered : Bool) (l : le
           pub events-wrong : not counted ≡ true → unless false rule.WrongCount 7 ≡ header-fault file
           events-wrong k = sym (counts-left ∙ rw (← m .value, ← t, not-true counted k))
 
-          module _ (k : not counted ≡ false) (experts : ℕ) (x : experts ≡ expert-count file) where
-            pub experts-wrong : 16 < experts → unless false rule.WrongCount 9 ≡ header-fault file
+          module _ (k : not counted ≡ false) (experts : ℕ) (x : experts ≡ expert-count file) (listed : Bool)
+              (u : listed ≡ within 0 16 experts) where
+            pub experts-wrong : not listed ≡ true → unless false rule.WrongCount 9 ≡ header-fault file
             experts-wrong g =
-                sym (counts-left ∙ rw (← m .value, ← t, not-false counted k, ← x, lt-leb experts 16 g))
+                sym (counts-left ∙ rw (← m .value, ← t, not-false counted k, ← x, ← u, not-true listed g))
 
-            module _ (g : experts ≤ 16) where
+            module _ (g : not listed ≡ false) where
               -- The rule of the length is left.
               length-left : header-fault file ≡ first-of (drop 5 (header-rules file))
-              length-left = counts-left ∙ rw (← m .value, ← t, not-false counted k, ← x, le-leb experts 16 g)
+              length-left =
+                  counts-left ∙ rw (← m .value, ← t, not-false counted k, ← x, ← u, not-false listed g)
 
               pub length-wrong : (length file ≡ 26 + 17 * events → ⊥)
                   → unless false rule.WrongLength (length file) ≡ header-fault file

@@ -80,7 +80,7 @@ term-holds experts expert given listed after = go (decLt expert experts)
 module _ (file : List ℕ) where
   module _ (terms : ℕ) where
     -- Somebody who spoke, where somebody did.
-    speaker-among : (n : ℕ) → spoke-among file terms n ≡ true → (i : ℕ) × ((i < n) × (1 ≤ term file terms i))
+    pub speaker-among : (n : ℕ) → spoke-among file terms n ≡ true → (i : ℕ) × ((i < n) × (1 ≤ term file terms i))
     unfolding spoke-among
     speaker-among zero h = absurd (false≢true h)
     speaker-among (suc n) h = go (spoke-among file terms n) refl (λ g. speaker-among n g)
@@ -98,7 +98,7 @@ module _ (file : List ℕ) where
             (n, (omega arith, spoke))
 
     -- One expert who spoke is enough.
-    spoke-found : (i n : ℕ) → i < n → 1 ≤ term file terms i → spoke-among file terms n ≡ true
+    pub spoke-found : (i n : ℕ) → i < n → 1 ≤ term file terms i → spoke-among file terms n ≡ true
     unfolding spoke-among
     spoke-found i zero l s = absurd (not-suc-le-zero l)
     spoke-found i (suc n) l s = go (λ k. spoke-found i n k s) (decLt i n)

@@ -1,5 +1,5 @@
 -- Cases computed by the prover: the smallest accepted sheet; for each refusal the smallest sheet that causes it, with
--- number and place; and document 01's P5 and P9 to P12.
+-- number and place; the limits; two faults in one sheet; document 01's P5 and P9 to P12; and each of the seven terms.
 use Prim.Native.Nat.{ℕ}
 use mathlib.Core.Path.{_≡_, refl}
 use mathlib.Core.List.{List, [], _∷_, _++_, map}
@@ -24,53 +24,34 @@ use Rattle.opinion_sheet.specs.declared.judgement.Judgement.the-variants
 abbrev zeros : ℕ → List ℕ
 zeros n = replicate n 0
 
+-- A header of version 1 with these bytes for the number of the tree, for E and for the experts, and these scores.
+abbrev header-with : ℕ → ℕ → ℕ → ℕ → ℕ → List ℕ → List ℕ
+header-with t u e f experts scores = (70 ∷ 84 ∷ 83 ∷ 1 ∷ 0 ∷ t ∷ u ∷ e ∷ f ∷ experts ∷ []) ++ scores
+
 -- A header of version 1 for tree 7 with these events, experts and sixteen scores.
 abbrev header : ℕ → ℕ → List ℕ → List ℕ
-header events experts scores = (70 ∷ 84 ∷ 83 ∷ 1 ∷ 0 ∷ 7 ∷ 0 ∷ events ∷ 0 ∷ experts ∷ []) ++ scores
+header events experts scores = header-with 7 0 events 0 experts scores
 
--- A sheet's answer: its event and expert counts, or the number and place of its refusal.
-pub data Answer : Type 0 where
-  accepted : ℕ → ℕ → Answer
-  refused : ℕ → ℕ → Answer
+-- An entry of four zeros, one of unknown kind, and one in which nobody spoke.
+abbrev zero-entry : List ℕ
+zero-entry = zeros 17
 
-abbrev answer : Judgement → Answer
-answer (Accepted counts) = accepted (counts .events) (counts .experts)
-answer (Refused r) = refused (number-of (r .rule)) (r .place)
+abbrev unknown : List ℕ
+unknown = 2 ∷ zeros 16
 
--- A sheet with the answer that it must get.
-pub record Case : Type 0 where
-  pub file : List ℕ
-  pub expected : Answer
+abbrev silence : List ℕ
+silence = 1 ∷ zeros 16
 
-abbrev cases : List Case
-cases =
-    record { file = header 1 0 (zeros 16) ++ zeros 17; expected = accepted 1 0 }
-    ∷ record { file = []; expected = refused 1 0 }
-    ∷ record { file = zeros 25; expected = refused 1 25 }
-    ∷ record { file = zeros 26; expected = refused 2 0 }
-    ∷ record { file = 70 ∷ 84 ∷ 83 ∷ zeros 23; expected = refused 3 3 }
-    ∷ record { file = header 0 0 (zeros 16); expected = refused 4 7 }
-    ∷ record { file = header 0 17 (zeros 16); expected = refused 4 7 }
-    ∷ record { file = header 1 17 (zeros 16); expected = refused 4 9 }
-    ∷ record { file = header 1 0 (zeros 16); expected = refused 5 26 }
-    ∷ record { file = header 1 0 (zeros 16) ++ zeros 18; expected = refused 5 44 }
-    ∷ record { file = header 1 1 (zeros 16) ++ zeros 17; expected = refused 7 10 }
-    ∷ record { file = header 1 1 (101 ∷ zeros 15) ++ zeros 17; expected = refused 7 10 }
-    ∷ record { file = header 1 0 (zeros 15 ++ (1 ∷ [])) ++ zeros 17; expected = refused 7 25 }
-    ∷ record { file = header 1 0 (zeros 16) ++ (2 ∷ zeros 16); expected = refused 6 26 }
-    ∷ record { file = header 1 0 (zeros 16) ++ (0 ∷ 1 ∷ zeros 15); expected = refused 10 26 }
-    ∷ record { file = header 1 0 (zeros 16) ++ (zeros 13 ++ (1 ∷ 202 ∷ 154 ∷ 59 ∷ [])); expected = refused 10 26 }
-    ∷ record { file = header 1 0 (zeros 16) ++ (1 ∷ 1 ∷ zeros 15); expected = refused 11 27 }
-    ∷ record { file = header 1 1 (1 ∷ zeros 15) ++ (1 ∷ 8 ∷ zeros 15); expected = refused 11 27 }
-    ∷ record { file = header 1 0 (zeros 16) ++ (1 ∷ zeros 15 ++ (1 ∷ [])); expected = refused 11 42 }
-    ∷ record { file = header 1 0 (zeros 16) ++ (1 ∷ zeros 16); expected = refused 12 26 }
-    ∷ record { file = header 2 0 (zeros 16) ++ zeros 17 ++ (1 ∷ zeros 16); expected = refused 12 43 }
-    ∷ []
+-- An entry whose a is above its b.
+abbrev falling : List ℕ
+falling = 0 ∷ 1 ∷ zeros 15
 
--- Each sheet gets its answer.
-pub answers : map (λ (c : Case). answer (judged (c .file))) cases ≡ map (λ (c : Case). c .expected) cases
-unfolding fault-of first-among header-fault spoke-among field16 field32
-answers = refl
+-- The bytes of U, and the entry with the largest numbers.
+abbrev unit-bytes : List ℕ
+unit-bytes = 0 ∷ 202 ∷ 154 ∷ 59 ∷ []
+
+abbrev largest : List ℕ
+largest = (0 ∷ unit-bytes) ++ unit-bytes ++ unit-bytes ++ unit-bytes
 
 -- P5's entry (0, 1, 1, 2).
 abbrev p5 : List ℕ
@@ -87,6 +68,102 @@ silent = header 1 2 (2 ∷ 1 ∷ zeros 14) ++ (1 ∷ 2 ∷ zeros 15)
 -- P11 and P12: six experts of source document 000.
 abbrev p11 : List ℕ
 p11 = header 1 6 (15 ∷ 12 ∷ 10 ∷ 12 ∷ 5 ∷ 8 ∷ zeros 10) ++ (1 ∷ 6 ∷ 5 ∷ 6 ∷ 4 ∷ 6 ∷ 4 ∷ zeros 10)
+
+-- One expert, with a score of 3, who gave a term by its code.
+abbrev one-term : ℕ → List ℕ
+one-term code = header 1 1 (3 ∷ zeros 15) ++ (1 ∷ code ∷ zeros 15)
+
+-- A sheet's answer: its tree number, its event and expert counts, or the number and place of its refusal.
+pub data Answer : Type 0 where
+  accepted : ℕ → ℕ → ℕ → Answer
+  refused : ℕ → ℕ → Answer
+
+abbrev answer : Judgement → Answer
+answer (Accepted counts) = accepted (counts .number) (counts .events) (counts .experts)
+answer (Refused r) = refused (number-of (r .rule)) (r .place)
+
+-- A sheet with the answer that it must get.
+pub record Case : Type 0 where
+  pub file : List ℕ
+  pub expected : Answer
+
+abbrev cases : List Case
+cases =
+    -- four zeros; numbers of U; a tree number with a high byte, 7 + 256 × 1
+    record { file = header 1 0 (zeros 16) ++ zero-entry; expected = accepted 7 1 0 }
+    ∷ record { file = header 1 0 (zeros 16) ++ largest; expected = accepted 7 1 0 }
+    ∷ record { file = header-with 7 1 1 0 0 (zeros 16) ++ zero-entry; expected = accepted 263 1 0 }
+    -- opinions: P9's sheet, an expert who said nothing, P11's, and the highest term
+    ∷ record { file = p9; expected = accepted 7 1 2 }
+    ∷ record { file = silent; expected = accepted 7 1 2 }
+    ∷ record { file = p11; expected = accepted 7 1 6 }
+    ∷ record { file = one-term 7; expected = accepted 7 1 1 }
+    -- sixteen experts with the highest score, all of whom spoke
+    ∷ record { file = header 1 16 (replicate 16 100) ++ (1 ∷ replicate 16 7); expected = accepted 7 1 16 }
+    -- 1: no byte, and one byte too few for the header
+    ∷ record { file = []; expected = refused 1 0 }
+    ∷ record { file = zeros 25; expected = refused 1 25 }
+    -- 2, and 3: version 0, and version 257, whose low byte is 1
+    ∷ record { file = zeros 26; expected = refused 2 0 }
+    ∷ record { file = 70 ∷ 84 ∷ 83 ∷ zeros 23; expected = refused 3 3 }
+    ∷ record { file = 70 ∷ 84 ∷ 83 ∷ 1 ∷ 1 ∷ zeros 21; expected = refused 3 3 }
+    -- 4: no event, and 1,025; 1,024 are in range, and the file is too short for them; 17 experts
+    ∷ record { file = header 0 0 (zeros 16); expected = refused 4 7 }
+    ∷ record { file = header-with 7 0 1 4 0 (zeros 16); expected = refused 4 7 }
+    ∷ record { file = header-with 7 0 0 4 0 (zeros 16); expected = refused 5 26 }
+    ∷ record { file = header 1 17 (zeros 16) ++ zero-entry; expected = refused 4 9 }
+    -- 5: no entry, and one byte too many
+    ∷ record { file = header 1 0 (zeros 16); expected = refused 5 26 }
+    ∷ record { file = header 1 0 (zeros 16) ++ zero-entry ++ zeros 1; expected = refused 5 44 }
+    -- 7: a listed score of 0, and of 101; a score after the last expert
+    ∷ record { file = header 1 1 (zeros 16) ++ zero-entry; expected = refused 7 10 }
+    ∷ record { file = header 1 1 (101 ∷ zeros 15) ++ zero-entry; expected = refused 7 10 }
+    ∷ record { file = header 1 16 (replicate 15 100 ++ 101 ∷ []) ++ zero-entry; expected = refused 7 25 }
+    ∷ record { file = header 1 0 (zeros 15 ++ 1 ∷ []) ++ zero-entry; expected = refused 7 25 }
+    -- 6
+    ∷ record { file = header 1 0 (zeros 16) ++ unknown; expected = refused 6 26 }
+    -- 10: a above b, and d one above U
+    ∷ record { file = header 1 0 (zeros 16) ++ falling; expected = refused 10 26 }
+    ∷ record { file = header 1 0 (zeros 16) ++ (zeros 13 ++ (1 ∷ 202 ∷ 154 ∷ 59 ∷ [])); expected = refused 10 26 }
+    -- 11: a term above 7, and one after the last expert
+    ∷ record { file = one-term 8; expected = refused 11 27 }
+    ∷ record { file = header 1 1 (1 ∷ zeros 15) ++ (1 ∷ 1 ∷ zeros 14 ++ 1 ∷ []); expected = refused 11 42 }
+    -- 12, in the first entry and in the second
+    ∷ record { file = one-term 0; expected = refused 12 26 }
+    ∷ record { file = header 2 0 (zeros 16) ++ zero-entry ++ silence; expected = refused 12 43 }
+    ∷ []
+
+-- Sheets with two faults, neighbours in document 01's order: the answer is the earlier.
+abbrev two-faults : List Case
+two-faults =
+    -- 1 before 2 before 3 before 4
+    record { file = zeros 25; expected = refused 1 25 }
+    ∷ record { file = 70 ∷ 84 ∷ 70 ∷ 2 ∷ zeros 22; expected = refused 2 0 }
+    ∷ record { file = 70 ∷ 84 ∷ 83 ∷ 2 ∷ zeros 22; expected = refused 3 3 }
+    -- E before the experts before 5
+    ∷ record { file = header 0 17 (zeros 16); expected = refused 4 7 }
+    ∷ record { file = header 1 17 (zeros 16); expected = refused 4 9 }
+    -- 5 before the scores, a score before a later one, the last score before the entries
+    ∷ record { file = header 1 1 (zeros 16); expected = refused 5 26 }
+    ∷ record { file = header 1 1 (zeros 15 ++ 1 ∷ []) ++ zero-entry; expected = refused 7 10 }
+    ∷ record { file = header 1 0 (zeros 15 ++ 1 ∷ []) ++ unknown; expected = refused 7 25 }
+    -- the kind first: read as numbers this entry falls, read as opinions it has no such term
+    ∷ record { file = header 1 0 (zeros 16) ++ (2 ∷ 8 ∷ zeros 15); expected = refused 6 26 }
+    -- each kind of fault in an entry before any in the next
+    ∷ record { file = header 2 0 (zeros 16) ++ unknown ++ falling; expected = refused 6 26 }
+    ∷ record { file = header 2 0 (zeros 16) ++ falling ++ unknown; expected = refused 10 26 }
+    ∷ record { file = header 2 0 (zeros 16) ++ (1 ∷ zeros 15 ++ 1 ∷ []) ++ silence; expected = refused 11 42 }
+    ∷ record { file = header 2 0 (zeros 16) ++ silence ++ (1 ∷ 1 ∷ zeros 15); expected = refused 12 26 }
+    -- a term before a later one; 11 where no listed expert spoke, and so before 12
+    ∷ record { file = header 1 0 (zeros 16) ++ (1 ∷ 0 ∷ 8 ∷ 1 ∷ zeros 13); expected = refused 11 28 }
+    ∷ record { file = header 1 1 (1 ∷ zeros 15) ++ (1 ∷ 0 ∷ 1 ∷ zeros 14); expected = refused 11 28 }
+    ∷ []
+
+-- Each sheet gets its answer.
+pub answers : map (λ (c : Case). answer (judged (c .file))) (cases ++ two-faults)
+    ≡ map (λ (c : Case). c .expected) (cases ++ two-faults)
+unfolding fault-of first-among header-fault spoke-among field16 field32
+answers = refl
 
 -- An entry alone in a sheet, a level k of n, and the cut that document 01 gives.
 pub record CutCase : Type 0 where
@@ -113,8 +190,27 @@ cut-cases =
     ∷ record { file = p11; k = 2; n = 2; expected = between 723548387 false 723548388 false }
     ∷ []
 
+-- The seven terms, each by one expert, at k = 0 (from a to d) and at k = n (b = c alone).
+abbrev term-cases : List CutCase
+term-cases =
+    record { file = one-term 1; k = 0; n = 2; expected = between 0 true 80000000 true }
+    ∷ record { file = one-term 1; k = 2; n = 2; expected = between 40000000 true 40000000 true }
+    ∷ record { file = one-term 2; k = 0; n = 2; expected = between 70000000 true 190000000 true }
+    ∷ record { file = one-term 2; k = 2; n = 2; expected = between 130000000 true 130000000 true }
+    ∷ record { file = one-term 3; k = 0; n = 2; expected = between 170000000 true 370000000 true }
+    ∷ record { file = one-term 3; k = 2; n = 2; expected = between 270000000 true 270000000 true }
+    ∷ record { file = one-term 4; k = 0; n = 2; expected = between 350000000 true 650000000 true }
+    ∷ record { file = one-term 4; k = 2; n = 2; expected = between 500000000 true 500000000 true }
+    ∷ record { file = one-term 5; k = 0; n = 2; expected = between 620000000 true 820000000 true }
+    ∷ record { file = one-term 5; k = 2; n = 2; expected = between 730000000 true 730000000 true }
+    ∷ record { file = one-term 6; k = 0; n = 2; expected = between 810000000 true 930000000 true }
+    ∷ record { file = one-term 6; k = 2; n = 2; expected = between 870000000 true 870000000 true }
+    ∷ record { file = one-term 7; k = 0; n = 2; expected = between 920000000 true 1000000000 true }
+    ∷ record { file = one-term 7; k = 2; n = 2; expected = between 960000000 true 960000000 true }
+    ∷ []
+
 -- Each cut is the one given.
-pub cuts : map (λ (c : CutCase). cut-at billion (c .file) 0 (c .k) (c .n)) cut-cases
-    ≡ map (λ (c : CutCase). c .expected) cut-cases
+pub cuts : map (λ (c : CutCase). cut-at billion (c .file) 0 (c .k) (c .n)) (cut-cases ++ term-cases)
+    ≡ map (λ (c : CutCase). c .expected) (cut-cases ++ term-cases)
 unfolding opinions-among field16 field32 cut cut-end rounded nothing-dropped
 cuts = refl

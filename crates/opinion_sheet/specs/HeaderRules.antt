@@ -22,7 +22,7 @@ header-rules file =
     ∷ unless (has-letters file) rule.WrongLetters letters-place
     ∷ unless (eqb (version file) version-read) rule.WrongVersion version-place
     ∷ unless (within 1 max-events (event-count file)) rule.WrongCount events-place
-    ∷ unless (leb (expert-count file) expert-places) rule.WrongCount experts-place
+    ∷ unless (within 0 expert-places (expert-count file)) rule.WrongCount experts-place
     ∷ unless (eqb (length file) (required-length file)) rule.WrongLength (length file)
     ∷ []
 

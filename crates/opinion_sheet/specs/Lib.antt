@@ -7,6 +7,7 @@ pub mod TermRules
 pub mod EntryRules
 pub mod Judged
 pub mod WellFormed
+pub mod Broken
 pub mod Opinion
 pub mod Mean
 pub mod Cut

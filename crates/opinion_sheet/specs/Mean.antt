@@ -3,6 +3,7 @@
 use Prim.Native.Nat.{ℕ, _+_, _*_}
 use mathlib.Core.List.{List}
 use lib.ListN.{getD}
+use Rattle.theory.specs.Trapezoid.{Trapezoid}
 use Rattle.opinion_sheet.specs.declared.mean.Sums.{Sums}
 
 -- The sums with one opinion more: its score, and score × value for the a, b = c and d of the term's row.
@@ -14,3 +15,13 @@ with-opinion sums row given =
       likely = sums .likely + given * getD row 1 0;
       high = sums .high + given * getD row 2 0;
     }
+
+-- The mean by its sums: in hundredths, so over 100 × the scores.
+abbrev pub mean-by : Sums → Trapezoid
+mean-by sums = record {
+  den = 100 * sums .scores;
+  a = sums .low;
+  b = sums .likely;
+  c = sums .likely;
+  d = sums .high;
+}

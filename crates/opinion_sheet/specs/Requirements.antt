@@ -4,7 +4,9 @@ use Prim.Native.Nat.{ℕ, _+_, _*_, _≤_, _<_}
 use mathlib.Core.List.{List}
 use lib.ListN.{length, getD}
 use Rattle.theory.specs.Trapezoid.{Trapezoid}
+use Rattle.theory.specs.Opinion.{spoken}
 use Rattle.opinion_sheet.specs.Format.{header-length, entry-length, expert-count, expert-places, term, max-term}
+use Rattle.opinion_sheet.specs.Opinion.{opinions-among}
 use Rattle.opinion_sheet.specs.declared.mean.Sums.{Sums}
 
 -- An entry at a place lies inside a file that has a header.
@@ -12,12 +14,14 @@ pub record EntryInside (file : List ℕ) (at : ℕ) : Type 0 where
   pub header-inside : header-length ≤ length file
   pub entry-inside : at + entry-length file ≤ length file
 
--- The scores and the terms of the listed experts lie inside the file, and each term is a row of the table or 0.
+-- The scores and the terms of the listed experts lie inside the file, each term is a row of the table or 0, and
+-- somebody with a score spoke.
 pub record OpinionsInside (file : List ℕ) (terms : ℕ) : Type 0 where
   pub header-inside : header-length ≤ length file
   pub experts-most : expert-count file ≤ expert-places
   pub terms-inside : terms + expert-places ≤ length file
   pub term-most : (i : ℕ) → i < expert-count file → term file terms i ≤ max-term
+  pub spoken-least : 1 ≤ spoken (opinions-among file terms (expert-count file))
 
 -- The sums leave room in 32 bits for one opinion more, whose term has values of at most 100.
 pub record SumsRoom (sums : Sums) (row : List ℕ) (given : ℕ) : Type 0 where

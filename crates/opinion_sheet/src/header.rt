@@ -41,11 +41,11 @@ pub fn judge_header(file: &[u8]) -> FirstFault
         return broken(Rule::WrongVersion, VERSION_PLACE);
     }
     let events = event_count(file);
+    let experts = expert_count(file);
     if !in_range(1, MAX_EVENTS, events) {
         return broken(Rule::WrongCount, EVENTS_PLACE);
     }
-    let experts = expert_count(file);
-    if EXPERT_PLACES < experts {
+    if !in_range(0, EXPERT_PLACES, experts) {
         return broken(Rule::WrongCount, EXPERTS_PLACE);
     }
     if length != HEADER_LENGTH + ENTRY_LENGTH * events {

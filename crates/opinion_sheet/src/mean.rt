@@ -5,10 +5,11 @@ use crate::fractions::Fractions;
 use crate::terms::TERMS;
 use fields::fields::byte_at;
 ghost use mathlib.Core.Path.{_≡_};
+ghost use Prim.Native.Nat.{_≤_};
 ghost use Rattle.theory.specs.Opinion.{mean};
 ghost use Rattle.opinion_sheet.specs.Format.{expert-count};
 ghost use Rattle.opinion_sheet.specs.Opinion.{opinions-among};
-ghost use Rattle.opinion_sheet.specs.Mean.{with-opinion};
+ghost use Rattle.opinion_sheet.specs.Mean.{with-opinion, mean-by};
 ghost use Rattle.opinion_sheet.specs.EventCut.{fractions-trapezoid};
 ghost use Rattle.opinion_sheet.specs.Requirements.{SumsRoom, OpinionsInside};
 
@@ -30,6 +31,20 @@ pub fn with_opinion(sums: Sums, row: [u32; 3], score: u32) -> Sums
         low: sums.low + score * row[0],
         likely: sums.likely + score * row[1],
         high: sums.high + score * row[2],
+    }
+}
+
+// The mean by its sums, of at least one opinion: four fractions, and nothing is rounded.
+pub fn mean_by(sums: Sums) -> Fractions
+    requires { ⌜ 1 ≤ sums .scores ⌝ }
+    ensures { λ r. ⌜ fractions-trapezoid r ≡ mean-by sums ⌝ }
+{
+    Fractions {
+        den: 100 * (sums.scores as u64),
+        a: sums.low as u64,
+        b: sums.likely as u64,
+        c: sums.likely as u64,
+        d: sums.high as u64,
     }
 }
 
@@ -56,11 +71,5 @@ pub fn mean_of(file: &[u8], terms: usize) -> Fractions
         }
         expert += 1;
     }
-    Fractions {
-        den: 100 * (sums.scores as u64),
-        a: sums.low as u64,
-        b: sums.likely as u64,
-        c: sums.likely as u64,
-        d: sums.high as u64,
-    }
+    mean_by(sums)
 }

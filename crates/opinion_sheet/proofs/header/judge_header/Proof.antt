@@ -34,6 +34,9 @@ returns-3 c = c .broken3 .ensures ∙ search (needs, version-wrong)
 event-count-requires : tie.Need-event-count-requires
 event-count-requires c κs = search needs
 
+expert-count-requires : tie.Need-expert-count-requires
+expert-count-requires c κs = search needs
+
 in-range-requires : tie.Need-in-range-requires
 in-range-requires c κs = search needs
 
@@ -43,8 +46,8 @@ broken-requires-4 c κs = search needs
 returns-4 : tie.Need-returns-4
 returns-4 c = c .broken4 .ensures ∙ search (needs, events-wrong)
 
-expert-count-requires : tie.Need-expert-count-requires
-expert-count-requires c κs = search needs
+in-range-requires-2 : tie.Need-in-range-requires-2
+in-range-requires-2 c κs = search needs
 
 broken-requires-5 : tie.Need-broken-requires-5
 broken-requires-5 c κs = search needs
@@ -80,10 +83,11 @@ judge-header-spec =
     broken-requires-3
     returns-3
     event-count-requires
+    expert-count-requires
     in-range-requires
     broken-requires-4
     returns-4
-    expert-count-requires
+    in-range-requires-2
     broken-requires-5
     returns-5
     mul-if6

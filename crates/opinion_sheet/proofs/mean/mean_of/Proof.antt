@@ -5,9 +5,9 @@ use mathlib.Core.Logic.{⊎-elim}
 use denote.Ref.{now}
 use borrow.Author.Needs.{needs}
 use native.Mathlib.Omega.{arith}
-use Rattle.theory.specs.Trapezoid.{Trapezoid}
 use Rattle.opinion_sheet.specs.Format.{expert-count}
 use Rattle.opinion_sheet.specs.Opinion.{opinions-among}
+use Rattle.opinion_sheet.specs.Mean.{mean-by}
 use Rattle.opinion_sheet.specs.declared.mean.Sums.{Sums}
 use Rattle.opinion_sheet.proofs.MeanOfOpinions.{sums-of, Summed, summed-none, summed-silent, summed-said}
 use Rattle.opinion_sheet.proofs.MeanOfOpinions.{summed-room}
@@ -19,11 +19,6 @@ Inv-loop file terms rows experts sums₀ expert₀ sums expert = Summed file ter
 
 abbrev μ-loop : tie.MeasureT-loop
 μ-loop file terms rows experts sums₀ expert₀ sums expert = experts - expert
-
--- The mean of sums.
-abbrev mean-of-sums : Sums → Trapezoid
-mean-of-sums sums =
-    record { den = 100 * sums .scores; a = sums .low; b = sums .likely; c = sums .likely; d = sums .high }
 
 term-most : (c : tie.After-byte-at Inv-loop μ-loop) → c .byte-at .result ≤ 7
 term-most c =
@@ -90,33 +85,26 @@ loop-again c =
     (λ w. rw (w .1) (summed-silent _ _ _ inv (omega arith) _ term (w .0 .left)))
     (c .if1 .came)
 
-cast-t25 : tie.Need-cast-t25 Inv-loop μ-loop
-cast-t25 c = search needs
-
-mul-t26 : tie.Need-mul-t26 Inv-loop μ-loop
-mul-t26 c = search needs
-
-cast-t27 : tie.Need-cast-t27 Inv-loop μ-loop
-cast-t27 c = search needs
-
-cast-t28 : tie.Need-cast-t28 Inv-loop μ-loop
-cast-t28 c = search needs
-
-cast-t29 : tie.Need-cast-t29 Inv-loop μ-loop
-cast-t29 c = search needs
-
-cast-t30 : tie.Need-cast-t30 Inv-loop μ-loop
-cast-t30 c = search needs
-
-returns : tie.Need-returns Inv-loop μ-loop
-returns c =
-    let head = c .before .before .before .before .before .before in
+-- All experts are passed: the sums are those of the entry's opinions.
+all-summed : (c : tie.After-loop Inv-loop μ-loop)
+    → let start = c .before .before .before .before in
+    let file = now (start .args .file) in
+    c .before .loop .sums ≡ sums-of (opinions-among file (start .args .terms) (expert-count file))
+all-summed c =
+    let head = c .before in
     let start = head .before .before .before in
     let all : head .loop .expert ≡ expert-count (now (start .args .file)) =
     omega (arith, head .before .expert-count .ensures .0) in
-    ap mean-of-sums
-    (head .loop .inv .summed
-    ∙ ap (λ (n : ℕ). sums-of (opinions-among (now (start .args .file)) (start .args .terms) n)) all)
+    head .loop .inv .summed
+    ∙ ap (λ (n : ℕ). sums-of (opinions-among (now (start .args .file)) (start .args .terms) n)) all
+
+mean-by-requires : tie.Need-mean-by-requires Inv-loop μ-loop
+mean-by-requires c κs =
+    let start = c .before .before .before .before in
+    omega (arith, ap (λ (s : Sums). s .scores) (all-summed c), start .pre .spoken-least)
+
+returns : tie.Need-returns Inv-loop μ-loop
+returns c = c .mean-by .ensures ∙ ap mean-by (all-summed (c .before))
 
 pub mean-of-spec : {M : Type 1} → statement M
 mean-of-spec =
@@ -138,10 +126,5 @@ mean-of-spec =
     add-expert
     loop-less
     loop-again
-    cast-t25
-    mul-t26
-    cast-t27
-    cast-t28
-    cast-t29
-    cast-t30
+    mean-by-requires
     returns)
