@@ -18,8 +18,8 @@ use Rattle.monitor.specs.declared.state.State.{State}
 use Rattle.monitor.specs.declared.held.Standing.{Standing}
 use Rattle.monitor.specs.declared.held.Standing.the-variants.{Ready, Refused}
 
--- The held bytes: the front of the store. A length beyond the store, of which the whole store would be taken, is refused
--- by 23.
+-- The held bytes: the front of the store. A length beyond the store, of which the whole store would be taken, is
+-- refused by 23.
 abbrev pub held : ℕ → List ℕ → List ℕ
 held len store = take len store
 
@@ -74,8 +74,8 @@ fitting tree sheet = eqb (tree .number) (sheet .number) && eqb (sheet .events) (
 abbrev pub other-tree : List ℕ → List ℕ → FirstFault
 other-tree tree sheet = unless (fitting (tree-counts tree) (sheet-counts sheet)) OtherTree 0
 
--- 25: one of the slices is shorter than N, the held tree's number of nodes: all other rules come before, so that the tree
--- is an accepted one.
+-- 25: one of the slices is shorter than N, the held tree's number of nodes. All other rules come before: the tree is an
+-- accepted one.
 abbrev pub short-slice : ℕ → Slices → FirstFault
 short-slice nodes s =
     unless (leb nodes (length (s .lower)) && leb nodes (length (s .upper)) && leb nodes (length (s .marks)))

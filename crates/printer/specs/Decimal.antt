@@ -11,8 +11,8 @@ use lib.Dec.{ltb}
 abbrev pub digit : ℕ → ℕ
 digit d = 48 + d
 
--- The digits of a number in at most that many steps: its tenth's, unless it has one digit, and its last. The steps do not
--- run out, by how many `decimal` gives.
+-- The digits of a number in at most that many steps: its tenth's, unless it has one digit, and its last. `decimal`
+-- gives so many steps that they do not run out.
 abbrev pub decimal-in : ℕ → ℕ → List ℕ
 decimal-in zero n = []
 decimal-in (suc steps) n = cond (ltb n 10) (digit n ∷ []) (decimal-in steps (n / 10) ++ (digit (n % 10) ∷ []))
@@ -30,8 +30,8 @@ abbrev pub All-digits : List ℕ → Type 0
 All-digits [] = Unit {0}
 All-digits (byte ∷ more) = Is-digit byte × All-digits more
 
--- The number that digits say, most significant first, after digits that say `before`. A digit is 48 or more, so that the
--- subtraction does not stop at 0.
+-- The number that digits say, most significant first, after digits that say `before`. A digit is 48 or more, so that
+-- the subtraction does not stop at 0.
 abbrev pub read-after : ℕ → List ℕ → ℕ
 read-after before [] = before
 read-after before (byte ∷ more) = read-after (10 * before + (byte - 48)) more
@@ -47,6 +47,6 @@ pub record Decimal-of (n : ℕ) (text : List ℕ) : Type 0 where
   pub digits : All-digits text
   -- they say the number
   pub says : read-back text ≡ n
-  -- where the first is `0`, the number is 0 and has no other digit; the default of a text without a first is excluded by
-  -- `not-empty`
+  -- where the first is `0`, the number is 0 and has no other digit; there is a first, by `not-empty`, so that the
+  -- default is not reached
   pub no-leading-zero : getD text 0 0 ≡ 48 → (n ≡ 0) × (length text ≡ 1)
