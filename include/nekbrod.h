@@ -26,6 +26,9 @@
 extern "C" {
 #endif
 
+/* The version of this header: major, minor and patch, a byte each. nekbrod_version answers that of the library. */
+#define NEKBROD_VERSION 0x010100u
+
 /* Ends are counted in units: one unit is a billionth, so this is the probability 1. */
 #define NEKBROD_ONE 1000000000u
 /* No accepted tree file and no accepted opinion sheet is longer: stores of these lengths never cause refusal 20. */
@@ -47,32 +50,36 @@ typedef struct nekbrod_state {
 } nekbrod_state;
 
 /*
- * Why a call was refused. Number 0: it was not refused, and the place is 0. A refused call changes no state, no store
- * and no slice. An offset is in bytes from 0 in the file handed in.
- *
- *   number                                                      place
- *    1  the file is shorter than its header (tree 9, sheet 26)   the file's length
- *    2  wrong letters at the front                               0
- *    3  the version is not 1                                     3
- *    4  the count of nodes, events or experts is out of range    7; 7; 9
- *    5  the length is not as the counts require                  the file's length
- *    6  unknown kind of record or entry                          offset of its byte
- *    7  a wrong field of a record                                offset of the record
- *       the inputs of all gates are too few                      offset of the first link
- *       a score out of rule                                      offset of the score
- *    8  a link that is not below its gate                        offset of the link
- *    9  a node that is linked a second time                      offset of the second link
- *   10  four numbers out of order or above 1                     offset of the entry
- *   11  a term above 7, or not 0 after the last expert           offset of the term
- *   12  an opinion entry in which nobody spoke                   offset of the entry
- *   13  the level is out of range                                0
- *   20  the store is shorter than the accepted file              0
- *   21  no tree is held                                          0
- *   22  no sheet is held                                         0
- *   23  held bytes are no longer an accepted file, or the        0 for the tree, 1 for the sheet
- *       held length is beyond the store
- *   24  the sheet is for another tree, or not for its events     0
- *   25  a work slice is shorter than the tree has nodes          0
+ * The numbers of the refusals, those of document 01, each with what it says and, after the colon, the place that comes
+ * with it. An offset is in bytes from 0 in the file handed in.
+ */
+/* Of a file handed in. */
+#define NEKBROD_TOO_SHORT 1u     /* the file is shorter than its header (tree 9, sheet 26): the file's length */
+#define NEKBROD_WRONG_LETTERS 2u /* wrong letters at the front: 0 */
+#define NEKBROD_WRONG_VERSION 3u /* the file's version is not 1: 3 */
+#define NEKBROD_WRONG_COUNT 4u   /* the number of nodes is out of range: 7; of events: 7; of experts: 9 */
+#define NEKBROD_WRONG_LENGTH 5u  /* the length is not as the counts require: the file's length */
+#define NEKBROD_UNKNOWN_KIND 6u  /* unknown kind of record or entry: offset of its byte */
+#define NEKBROD_WRONG_FIELD 7u   /* a wrong field of a record: offset of the record; the inputs of all gates are too
+                                    few: offset of the first link; a score out of rule: offset of the score */
+#define NEKBROD_NOT_BELOW 8u     /* a link that is not below its gate: offset of the link */
+#define NEKBROD_LINKED_BEFORE 9u /* a node that is linked a second time: offset of the second link */
+#define NEKBROD_NUMBER_ORDER 10u /* four numbers out of order or above 1: offset of the entry */
+#define NEKBROD_WRONG_TERM 11u   /* a term above 7, or not 0 after the last expert: offset of the term */
+#define NEKBROD_NOBODY_SPOKE 12u /* an opinion entry in which nobody spoke: offset of the entry */
+#define NEKBROD_SHORT_STORE 20u  /* the store is shorter than the accepted file: 0 */
+/* Of a level, and of what is held and lent for it. */
+#define NEKBROD_WRONG_LEVEL 13u /* the level is out of range: 0 */
+#define NEKBROD_NO_TREE 21u     /* no tree is held: 0 */
+#define NEKBROD_NO_SHEET 22u    /* no sheet is held: 0 */
+#define NEKBROD_CHANGED 23u     /* held bytes are no longer an accepted file, or the held length is beyond the store:
+                                   0 for the tree, 1 for the sheet */
+#define NEKBROD_OTHER_TREE 24u  /* the sheet is for another tree, or not for its number of events: 0 */
+#define NEKBROD_SHORT_SLICE 25u /* a work slice is shorter than the tree has nodes: 0 */
+
+/*
+ * Why a call was refused, by one of the numbers above. Number 0: it was not refused, and the place is 0. A refused call
+ * changes no state, no store and no slice.
  */
 typedef struct nekbrod_refusal {
     size_t number;
@@ -94,9 +101,13 @@ typedef struct nekbrod_standing {
 
 /*
  * What a question answers: the state, as it went in; the refusal; the root's lower and upper end in units, whether each
- * is the exact one, and the number of basic events E. An end that is not exact lies outward of the exact one, by less
- * than 2 * E - 1 units. Refused, the reply has the enclosure that says nothing, 0 to NEKBROD_ONE with neither end
- * exact, and its events are 0.
+ * is exact, and the number of basic events of the held tree, E. Refused, the reply has the enclosure that says nothing,
+ * 0 to NEKBROD_ONE with neither end exact, and its events are 0.
+ *
+ * A node's exact lower end is its unreliability, reckoned without any rounding, with every basic event at the lower end
+ * of its own cut, which is not rounded either; its exact upper end is that with every event at the upper end. An end
+ * that is reported is called exact where it equals that number, and only there. Any other lies outward of it, a lower
+ * end below and an upper end above, by less than 2 * E - 1 units.
  */
 typedef struct nekbrod_reply {
     nekbrod_state state;
@@ -108,10 +119,14 @@ typedef struct nekbrod_reply {
     size_t events;
 } nekbrod_reply;
 
+/* The library's version, as NEKBROD_VERSION has that of the header: equal where both are of one delivery. */
+uint32_t nekbrod_version(void);
+
 /*
  * Hands in a tree file.
  * Reads file[0 .. file_len). Accepted, it is copied to the front of the store, the rest of the store stays, and the
- * state holds it in place of the one before, beside the sheet as before. Refused by the first fault of 1 to 9, else by 20.
+ * state holds it in place of the one before, beside the sheet as before. Refused by the first fault of 1 to 9, else by
+ * 20.
  */
 nekbrod_answer nekbrod_hand_in_tree(nekbrod_state state, const uint8_t *file, size_t file_len, uint8_t *tree_store,
                                     size_t tree_store_len);
@@ -139,9 +154,10 @@ nekbrod_standing nekbrod_judge(nekbrod_state state, const uint8_t *tree_store, s
 /*
  * Questions level k of n. Judges and reads as nekbrod_judge does, refused as it is, and by 25 after all else.
  * Answered, it writes for each node i of the held tree lower[i] and upper[i], the node's ends in units, and marks[i],
- * NEKBROD_LOWER_EXACT plus NEKBROD_UPPER_EXACT as these ends are exact; the root is the last node. Places from the
- * number of nodes on stay. Whatever probability each basic event has inside its cut, the top probability lies from
- * reply.lower to reply.upper.
+ * NEKBROD_LOWER_EXACT plus NEKBROD_UPPER_EXACT as these ends are exact; the root is the last node. What is said of the
+ * reply's ends holds of each node's: exact, or outward of the node's own exact end by less than 2 * E - 1 units, where
+ * E is reply.events. Places from the number of nodes on stay. Whatever probability each basic event has inside its cut,
+ * the top probability lies from reply.lower to reply.upper, the ends included.
  */
 nekbrod_reply nekbrod_question(nekbrod_state state, const uint8_t *tree_store, size_t tree_store_len,
                                const uint8_t *sheet_store, size_t sheet_store_len, uint32_t k, uint32_t n,

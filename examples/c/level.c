@@ -3,7 +3,7 @@
  *
  * The line is that of the level printer: k, the lower end in billionths and its mark, the upper end and its mark, where
  * = is exact and ~ is not. A refusal is printed with its number and place. Exit status: 0 answered, 1 refused, 2 the
- * arguments are wrong or a file can't be read.
+ * arguments are wrong, a file can't be read, or the library is not that of the header.
  *
  * Build at the repository's root, after rt staticlib capi:
  *     cc -Iinclude examples/c/level.c target/staticlib/libcapi.a -o level
@@ -111,6 +111,10 @@ int main(int argc, char **argv)
 {
     struct file tree, sheet;
     uint32_t k, n;
+    if (nekbrod_version() != NEKBROD_VERSION) {
+        fprintf(stderr, "level: the library is of another version than nekbrod.h\n");
+        return UNUSABLE;
+    }
     if (argc != 5 || !read_number(argv[3], &k) || !read_number(argv[4], &n)) {
         fprintf(stderr, "usage: level TREE SHEET K N, where TREE and SHEET are files and level K of N is asked\n");
         return UNUSABLE;

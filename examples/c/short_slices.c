@@ -1,6 +1,7 @@
 /*
  * What the calls answer where slices are null, empty or too short, and that nothing beside a slice is touched: each
- * slice ends where unmapped memory begins. Prints ok, or each line that fails.
+ * slice ends where unmapped memory begins. And that header and library are of one version. Prints ok, or each line that
+ * fails.
  *
  * Build at the repository's root, after rt staticlib capi:
  *     cc -Iinclude examples/c/short_slices.c target/staticlib/libcapi.a -o short_slices
@@ -75,29 +76,29 @@ static void hand_in_short(void)
     uint8_t *tree = copy_at_the_edge(TREE, sizeof TREE), *sheet = copy_at_the_edge(SHEET, sizeof SHEET);
     uint8_t *store = at_the_edge(13);
     nekbrod_answer answer = nekbrod_hand_in_tree(BOTH, NULL, 0, NULL, 0);
-    EXPECT(refused(answer.refusal, 1, 0) && same(answer.state, BOTH));
+    EXPECT(refused(answer.refusal, NEKBROD_TOO_SHORT, 0) && same(answer.state, BOTH));
     answer = nekbrod_hand_in_sheet(BOTH, NULL, 0, NULL, 0);
-    EXPECT(refused(answer.refusal, 1, 0) && same(answer.state, BOTH));
+    EXPECT(refused(answer.refusal, NEKBROD_TOO_SHORT, 0) && same(answer.state, BOTH));
     answer = nekbrod_hand_in_tree(BOTH, tree, 8, NULL, 0);
-    EXPECT(refused(answer.refusal, 1, 8) && same(answer.state, BOTH));
+    EXPECT(refused(answer.refusal, NEKBROD_TOO_SHORT, 8) && same(answer.state, BOTH));
     answer = nekbrod_hand_in_tree(NOTHING, tree, sizeof TREE, NULL, 0);
-    EXPECT(refused(answer.refusal, 20, 0) && same(answer.state, NOTHING));
+    EXPECT(refused(answer.refusal, NEKBROD_SHORT_STORE, 0) && same(answer.state, NOTHING));
     answer = nekbrod_hand_in_sheet(NOTHING, sheet, sizeof SHEET, NULL, 0);
-    EXPECT(refused(answer.refusal, 20, 0) && same(answer.state, NOTHING));
+    EXPECT(refused(answer.refusal, NEKBROD_SHORT_STORE, 0) && same(answer.state, NOTHING));
     answer = nekbrod_hand_in_tree(NOTHING, tree, sizeof TREE, store, 13);
-    EXPECT(refused(answer.refusal, 20, 0) && same(answer.state, NOTHING) && filled(store, 13));
+    EXPECT(refused(answer.refusal, NEKBROD_SHORT_STORE, 0) && same(answer.state, NOTHING) && filled(store, 13));
 }
 
 static void judge_short(void)
 {
     uint8_t *tree = copy_at_the_edge(TREE, sizeof TREE), *sheet = copy_at_the_edge(SHEET, sizeof SHEET);
     nekbrod_state tree_alone = {sizeof TREE, 0};
-    EXPECT(refused(nekbrod_judge(NOTHING, NULL, 0, NULL, 0, 1, 0).refusal, 13, 0));
-    EXPECT(refused(nekbrod_judge(NOTHING, NULL, 0, NULL, 0, 1, 2).refusal, 21, 0));
-    EXPECT(refused(nekbrod_judge(tree_alone, NULL, 0, NULL, 0, 1, 2).refusal, 22, 0));
-    EXPECT(refused(nekbrod_judge(BOTH, NULL, 0, NULL, 0, 1, 2).refusal, 23, 0));
-    EXPECT(refused(nekbrod_judge(BOTH, tree, sizeof TREE - 1, sheet, sizeof SHEET, 1, 2).refusal, 23, 0));
-    EXPECT(refused(nekbrod_judge(BOTH, tree, sizeof TREE, NULL, 0, 1, 2).refusal, 23, 1));
+    EXPECT(refused(nekbrod_judge(NOTHING, NULL, 0, NULL, 0, 1, 0).refusal, NEKBROD_WRONG_LEVEL, 0));
+    EXPECT(refused(nekbrod_judge(NOTHING, NULL, 0, NULL, 0, 1, 2).refusal, NEKBROD_NO_TREE, 0));
+    EXPECT(refused(nekbrod_judge(tree_alone, NULL, 0, NULL, 0, 1, 2).refusal, NEKBROD_NO_SHEET, 0));
+    EXPECT(refused(nekbrod_judge(BOTH, NULL, 0, NULL, 0, 1, 2).refusal, NEKBROD_CHANGED, 0));
+    EXPECT(refused(nekbrod_judge(BOTH, tree, sizeof TREE - 1, sheet, sizeof SHEET, 1, 2).refusal, NEKBROD_CHANGED, 0));
+    EXPECT(refused(nekbrod_judge(BOTH, tree, sizeof TREE, NULL, 0, 1, 2).refusal, NEKBROD_CHANGED, 1));
     nekbrod_standing standing = nekbrod_judge(BOTH, tree, sizeof TREE, sheet, sizeof SHEET, 1, 2);
     EXPECT(refused(standing.refusal, 0, 0) && standing.nodes == 1 && standing.events == 1);
     EXPECT(same(nekbrod_drop_both(BOTH), NOTHING));
@@ -117,10 +118,10 @@ static void question_short(void)
     uint32_t *lower = (uint32_t *)(void *)at_the_edge(4), *upper = (uint32_t *)(void *)at_the_edge(4);
     uint8_t *marks = at_the_edge(1);
     nekbrod_reply reply = nekbrod_question(NOTHING, NULL, 0, NULL, 0, 1, 2, NULL, 0, NULL, 0, NULL, 0);
-    EXPECT(refused(reply.refusal, 21, 0) && same(reply.state, NOTHING));
+    EXPECT(refused(reply.refusal, NEKBROD_NO_TREE, 0) && same(reply.state, NOTHING));
     for (int kept = 0; kept < 7; kept++) {
         reply = question(lower, kept & 1, upper, kept >> 1 & 1, marks, kept >> 2 & 1);
-        EXPECT(refused(reply.refusal, 25, 0) && same(reply.state, BOTH));
+        EXPECT(refused(reply.refusal, NEKBROD_SHORT_SLICE, 0) && same(reply.state, BOTH));
         EXPECT(reply.lower == 0 && reply.upper == NEKBROD_ONE && !reply.lower_exact && !reply.upper_exact);
         EXPECT(reply.events == 0 && filled(lower, 4) && filled(upper, 4) && filled(marks, 1));
     }
@@ -132,6 +133,7 @@ static void question_short(void)
 
 int main(void)
 {
+    EXPECT(nekbrod_version() == NEKBROD_VERSION);
     hand_in_short();
     judge_short();
     question_short();

@@ -1,8 +1,12 @@
--- The monitor's answers as C gets them. Each exported function answers the C form of what monitor's definition gives,
--- and leaves in every lent slice what that definition says; `nekbrod_question` also keeps demands 2 and 3, as Question
--- says them of the C reply. Read in this order.
+-- The monitor's answers as C gets them. The main contracts are those of the exported functions. Each answers the C form
+-- of what monitor's definition gives, and leaves in every lent slice what that definition says: `nekbrod_hand_in_tree`
+-- and `nekbrod_hand_in_sheet` answer `answer-for` of HandIn, `nekbrod_drop_both` answers `state-of` of State,
+-- `nekbrod_judge` answers `standing-for` of Standing, `nekbrod_question` answers `reply-for` of Question and keeps
+-- demands 2 and 3 as `Promises-kept` says them of the C reply. `nekbrod_version` answers `version` of Version. No definition
+-- stands for an inner contract alone. Read in this order.
 pub mod State
 pub mod Refusal
 pub mod HandIn
 pub mod Standing
 pub mod Question
+pub mod Version

@@ -4,3 +4,4 @@ pub mod judge;
 pub mod question;
 pub mod refusal;
 pub mod state;
+pub mod version;

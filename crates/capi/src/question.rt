@@ -68,7 +68,8 @@ pub extern "C" fn nekbrod_question(
     upper: &mut [u32],
     marks: &mut [u8],
 ) -> Reply
-    ensures { λ r. ⌜ r ≡ reply-for (reply-of (held-of state) (now («tree_store» .entry)) (now («sheet_store» .entry)) k n
+    ensures { λ r. ⌜ r ≡ reply-for
+        (reply-of (held-of state) (now («tree_store» .entry)) (now («sheet_store» .entry)) k n
         (slices (now (lower .entry)) (now (upper .entry)) (now (marks .entry)))) ⌝ }
     ensures { λ _. ⌜ slices (now (lower .exit)) (now (upper .exit)) (now (marks .exit))
         ≡ slices-left (held-of state) (now («tree_store» .entry)) (now («sheet_store» .entry)) k n

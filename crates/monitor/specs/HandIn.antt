@@ -23,7 +23,8 @@ abbrev pub answer-by : FirstFault → State → State → Answer
 answer-by (Found r) before after = record { state = before; verdict = Refused r }
 answer-by Absent before after = record { state = after; verdict = Accepted }
 
--- The store after: the file at its front and the rest unchanged, or as it was where the file is refused.
+-- The store after: the file at its front and the rest unchanged, or as it was where the file is refused. A file longer
+-- than the store, whose bytes would run beyond it, is refused by 20.
 abbrev pub store-by : FirstFault → List ℕ → List ℕ → List ℕ
 store-by (Found r) file store = store
 store-by Absent file store = file ++ drop (length file) store

@@ -18,7 +18,8 @@ use Rattle.monitor.specs.declared.state.State.{State}
 use Rattle.monitor.specs.declared.held.Standing.{Standing}
 use Rattle.monitor.specs.declared.held.Standing.the-variants.{Ready, Refused}
 
--- The held bytes: the front of the store.
+-- The held bytes: the front of the store. A length beyond the store, of which the whole store would be taken, is
+-- refused by 23.
 abbrev pub held : ℕ → List ℕ → List ℕ
 held len store = take len store
 
@@ -68,11 +69,13 @@ sheet-changed state store = changed 1 sheet-fault (state .«sheet_len») store
 abbrev pub fitting : Counts → SheetCounts → Bool
 fitting tree sheet = eqb (tree .number) (sheet .number) && eqb (sheet .events) (tree .events)
 
--- 24: the sheet is for another tree, or for another number of basic events.
+-- 24: the sheet is for another tree, or for another number of basic events. The counts are those of accepted files: any
+-- other is refused by 23, which comes before.
 abbrev pub other-tree : List ℕ → List ℕ → FirstFault
 other-tree tree sheet = unless (fitting (tree-counts tree) (sheet-counts sheet)) OtherTree 0
 
--- 25: one of the slices is shorter than N.
+-- 25: one of the slices is shorter than N, the held tree's number of nodes. All other rules come before: the tree is an
+-- accepted one.
 abbrev pub short-slice : ℕ → Slices → FirstFault
 short-slice nodes s =
     unless (leb nodes (length (s .lower)) && leb nodes (length (s .upper)) && leb nodes (length (s .marks)))

@@ -11,7 +11,7 @@ use borrow.Author.Tests.{lt-ltb, le-ltb, ltb-true, ltb-false}
 use Rattle.printer.specs.Decimal.{digit, decimal-in, decimal}
 
 -- a tenth is below the number, unless that is 0
-tenth-below : (n m : ℕ) → 10 ≤ n → n < suc m → n / 10 < m
+pub tenth-below : (n m : ℕ) → 10 ≤ n → n < suc m → n / 10 < m
 tenth-below n m l h =
     let positive : 0 < n = omega arith in
     let below : n / 10 < n = div-lt-self positive (lit< tt) in

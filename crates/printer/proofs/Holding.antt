@@ -208,4 +208,5 @@ module _ (tree sheet : List ℕ) (n : ℕ) (l : length tree ≤ most-tree) (answ
   tree-held store k v before after end put =
       put-as whole-is
       (held-put (tree-fault tree) tree (replicate most-tree 0) nothing-held tree-held-state
-      (rw length-replicate l) answer e (λ s store. sheet-text s store sheet n) tree-front store k v before after end put)
+      (rw length-replicate l) answer e (λ s store. sheet-text s store sheet n) tree-front
+      store k v before after end put)

@@ -123,5 +123,6 @@ module _ (k : ℕ) (ends : Enclosure) (h : k < 2 ^ 32) (l : ends .lower .value <
   level-room room = omega (arith, level-most)
 
   -- it ends within that
-  pub level-end : (after : List ℕ) (last : ℕ) → Put (level-line k ends) place draft after last → last ≤ place + most-line
+  pub level-end : (after : List ℕ) (last : ℕ) → Put (level-line k ends) place draft after last
+      → last ≤ place + most-line
   level-end after last put = omega (arith, level-most, put .end-is)

@@ -1,4 +1,4 @@
--- What is printed once files are held, for the contracts inside this crate.
+-- What is printed once files are held, for the contracts of functions inside this crate alone.
 use Prim.Native.Nat.{ℕ}
 use mathlib.Core.Path.{_≡_}
 use mathlib.Core.List.{List}
@@ -24,7 +24,8 @@ Ready-at state tree-store sheet-store n =
 -- What a question answers, with a place in the work slices for every node of the largest tree.
 unfoldable pub outcome-at : State → List ℕ → List ℕ → ℕ → ℕ → Outcome
 outcome-at state tree-store sheet-store k n =
-    outcome-of state tree-store sheet-store k n (slices (replicate max-nodes 0) (replicate max-nodes 0) (replicate max-nodes 0))
+    outcome-of state tree-store sheet-store k n
+    (slices (replicate max-nodes 0) (replicate max-nodes 0) (replicate max-nodes 0))
 
 -- The text where both files are held: the question's refusal, or the levels.
 unfoldable pub held-text : State → List ℕ → List ℕ → ℕ → List ℕ

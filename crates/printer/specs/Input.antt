@@ -1,4 +1,5 @@
--- The printer's input: 16-bit n, tree length and sheet length, low byte first, then the tree and the sheet.
+-- The printer's input: 16-bit n, tree length and sheet length, low byte first, then the tree and the sheet. A byte
+-- beyond the end would read as 0: an input of less than 6 bytes is excluded by the first test of `well-framed`.
 use Prim.Native.Nat.{ℕ, _+_}
 use mathlib.Core.Bool.{Bool, _&&_}
 use mathlib.Core.List.{List}

@@ -12,7 +12,8 @@ use Rattle.printer.specs.Decimal.{decimal}
 abbrev pub ended : List ℕ → ℕ → List ℕ
 ended field after = field ++ (after ∷ [])
 
--- Fields parted by one space (32), and the byte after the last.
+-- Fields parted by one space (32), and the byte after the last. No line is without a field: the first clause is not
+-- reached.
 abbrev pub parted : List (List ℕ) → ℕ → List ℕ
 parted [] after = after ∷ []
 parted (field ∷ []) after = ended field after

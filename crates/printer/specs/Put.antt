@@ -1,4 +1,4 @@
--- What the functions inside this crate leave in the draft they write to.
+-- What the functions inside this crate leave in the draft they write to, for their contracts alone.
 use Prim.Native.Nat.{ℕ, _+_, _≤_}
 use mathlib.Core.Path.{_≡_}
 use mathlib.Core.List.{List, _++_}
