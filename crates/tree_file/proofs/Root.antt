@@ -22,6 +22,7 @@ module _ (file : List ℕ) (w : WellFormed file) where
       → fault-tree file i ≡ build (fault-tree file) (link file) (node-of file i)
   tree-opens i l = tree-unfolds (table-of file) (rank file) (table-ranked file w) i l
 
+  -- The root is node N − 1: a well-formed file has a node, so the subtraction never stops at 0.
   root-inside : node-count file - 1 < node-count file
   root-inside = table-rooted file w .root-inside
 
