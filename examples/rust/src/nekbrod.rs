@@ -1,0 +1,169 @@
+//! The calls of include/nekbrod.h as a monitor that owns what the library is lent: two stores, three work slices, and
+//! the state between calls. So a safe program cannot pass it a wrong pointer, a wrong length or another state.
+
+/// No accepted tree file and no accepted opinion sheet is longer, and no accepted tree has more nodes.
+const LARGEST_TREE: usize = 7_175;
+const LARGEST_SHEET: usize = 17_434;
+const MOST_NODES: usize = 1_024;
+
+/// Why a call was refused: the number and the place, as docs/REFUSALS.md explains them.
+#[repr(C)]
+#[derive(Clone, Copy, PartialEq, Eq, Debug)]
+pub struct Refusal {
+    pub number: usize,
+    pub place: usize,
+}
+
+/// An end in billionths, and whether it is the exact one.
+#[derive(Clone, Copy, PartialEq, Eq, Debug)]
+pub struct End {
+    pub billionths: u32,
+    pub exact: bool,
+}
+
+/// The enclosure of the top probability, and the number of basic events.
+#[derive(Clone, Copy, PartialEq, Eq, Debug)]
+pub struct Level {
+    pub lower: End,
+    pub upper: End,
+    pub events: usize,
+}
+
+pub struct Monitor {
+    state: State,
+    tree_store: Vec<u8>,
+    sheet_store: Vec<u8>,
+    lower: Vec<u32>,
+    upper: Vec<u32>,
+    marks: Vec<u8>,
+}
+
+impl Monitor {
+    /// A monitor that holds nothing, with room for the largest files and the largest tree.
+    pub fn new() -> Monitor {
+        Monitor {
+            state: State { tree_len: 0, sheet_len: 0 },
+            tree_store: vec![0; LARGEST_TREE],
+            sheet_store: vec![0; LARGEST_SHEET],
+            lower: vec![0; MOST_NODES],
+            upper: vec![0; MOST_NODES],
+            marks: vec![0; MOST_NODES],
+        }
+    }
+
+    /// Holds a tree file in place of the one before; refused, the monitor stays as it was.
+    pub fn hand_in_tree(&mut self, file: &[u8]) -> Result<(), Refusal> {
+        let store = &mut self.tree_store;
+        // SAFETY: both slices are there for their lengths, and Rust keeps the store apart from the file.
+        let answer =
+            unsafe { nekbrod_hand_in_tree(self.state, file.as_ptr(), file.len(), store.as_mut_ptr(), store.len()) };
+        self.state = answer.state;
+        answer.refusal.unless_none()
+    }
+
+    /// Holds an opinion sheet in place of the one before; refused, the monitor stays as it was.
+    pub fn hand_in_sheet(&mut self, file: &[u8]) -> Result<(), Refusal> {
+        let store = &mut self.sheet_store;
+        // SAFETY: as for a tree.
+        let answer =
+            unsafe { nekbrod_hand_in_sheet(self.state, file.as_ptr(), file.len(), store.as_mut_ptr(), store.len()) };
+        self.state = answer.state;
+        answer.refusal.unless_none()
+    }
+
+    /// Level k of n of the held pair.
+    pub fn question(&mut self, k: u32, n: u32) -> Result<Level, Refusal> {
+        // SAFETY: all five are vectors of their own, lent with their lengths.
+        let reply = unsafe {
+            nekbrod_question(
+                self.state,
+                self.tree_store.as_ptr(),
+                self.tree_store.len(),
+                self.sheet_store.as_ptr(),
+                self.sheet_store.len(),
+                k,
+                n,
+                self.lower.as_mut_ptr(),
+                self.lower.len(),
+                self.upper.as_mut_ptr(),
+                self.upper.len(),
+                self.marks.as_mut_ptr(),
+                self.marks.len(),
+            )
+        };
+        self.state = reply.state;
+        reply.refusal.unless_none()?;
+        Ok(Level {
+            lower: End { billionths: reply.lower, exact: reply.lower_exact },
+            upper: End { billionths: reply.upper, exact: reply.upper_exact },
+            events: reply.events,
+        })
+    }
+}
+
+impl Refusal {
+    /// Number 0 says that the call was not refused.
+    fn unless_none(self) -> Result<(), Refusal> {
+        if self.number == 0 {
+            Ok(())
+        } else {
+            Err(self)
+        }
+    }
+}
+
+#[repr(C)]
+#[derive(Clone, Copy)]
+struct State {
+    tree_len: usize,
+    sheet_len: usize,
+}
+
+#[repr(C)]
+struct Answer {
+    state: State,
+    refusal: Refusal,
+}
+
+#[repr(C)]
+struct Reply {
+    state: State,
+    refusal: Refusal,
+    lower: u32,
+    upper: u32,
+    lower_exact: bool,
+    upper_exact: bool,
+    events: usize,
+}
+
+extern "C" {
+    fn nekbrod_hand_in_tree(
+        state: State,
+        file: *const u8,
+        file_len: usize,
+        tree_store: *mut u8,
+        tree_store_len: usize,
+    ) -> Answer;
+    fn nekbrod_hand_in_sheet(
+        state: State,
+        sheet: *const u8,
+        sheet_len: usize,
+        sheet_store: *mut u8,
+        sheet_store_len: usize,
+    ) -> Answer;
+    fn nekbrod_question(
+        state: State,
+        tree_store: *const u8,
+        tree_store_len: usize,
+        sheet_store: *const u8,
+        sheet_store_len: usize,
+        k: u32,
+        n: u32,
+        lower: *mut u32,
+        lower_len: usize,
+        upper: *mut u32,
+        upper_len: usize,
+        marks: *mut u8,
+        marks_len: usize,
+    ) -> Reply;
+}
