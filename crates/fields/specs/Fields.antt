@@ -4,8 +4,7 @@ use mathlib.Core.Path.{_≡_}
 use mathlib.Core.List.{List}
 use lib.ListN.{getD}
 
--- The byte at an offset, 0 past the end: no reader asks there, and a file's rules read on only where its length (rules 1
--- and 5) is as required.
+-- The byte at an offset; 0 past the end, where nothing is read: 01's rules 1 and 5 on a file's length come first.
 abbrev pub byte : List ℕ → ℕ → ℕ
 byte s at = getD s at 0
 

@@ -7,7 +7,7 @@ use native.Mathlib.Nat.{le-refl, le-trans, le-antisymm}
 use native.Mathlib.Omega.{arith}
 use mathlib.Core.Path.{_≡_, refl, ap, sym, _∙_}
 use lib.Dec.{T, eqb, eqb·suc-zero}
-use Rattle.theory.specs.Rounding.{Direction, down, up, Safe, No-nearer, IsRounded, carry, rounded, nothing-dropped}
+use Rattle.theory.specs.Rounding.{Direction, down, up, IsRounded, carry, rounded, nothing-dropped}
 use Rattle.theory.proofs.Gap.{Gap}
 use Rattle.theory.proofs.Outward.{Outward, lower-of, upper-of, outward-widen}
 

@@ -39,8 +39,7 @@ pub record Example : Type 0 where
   pub lower : End
   pub upper : End
 
--- what the rounded evaluation reports of an example, in a direction; every event of the table has its entry, so that
--- none takes the default
+-- what the rounded evaluation reports of an example, in a direction; every event has an entry, none takes the default
 abbrev pub outcome : Direction → Example → End
 outcome w x = reported billion w (λ e. cut (getD (x .entries) e (crisp 0)) (x .k) (x .n)) (x .tree)
 
@@ -117,7 +116,7 @@ P12 = at-level 2 six-experts (about 723_548_387) (about 723_548_388)
 abbrev pub table : List Example
 table = P1 ∷ P2 ∷ P3 ∷ P4 ∷ P5 ∷ P6 ∷ P7 ∷ P8 ∷ P9 ∷ P10 ∷ P11 ∷ P12 ∷ []
 
--- 004, Example 4: p(a) = 0.8, p(b) = 0.1, p(c) = 0.4; there is no further event, so that none takes the default
+-- 004, Example 4: p(a) = 0.8, p(b) = 0.1, p(c) = 0.4; there is no further event to take the default
 abbrev pub road-trip-probability : ℕ → Fraction
 road-trip-probability e = in-units 10 (getD (8 ∷ 1 ∷ 4 ∷ []) e 0)
 

@@ -35,8 +35,7 @@ abbrev pub carry : ℕ → ℕ
 carry zero = 0
 carry (suc r) = 1
 
--- a / b rounded: the number of which `IsRounded` speaks, and no other (proofs/RoundingMeaning: `rounded-is-rounded`,
--- `rounded-unique`)
+-- a / b rounded: for b above 0 the one number of which `IsRounded` speaks (`rounded-is-rounded`, `rounded-unique`)
 unfoldable pub rounded : Direction → ℕ → ℕ → ℕ
 rounded down a b = a / b
 rounded up a b = a / b + carry (a % b)
@@ -58,7 +57,7 @@ divided w a b = record { value = rounded w a b; exact = nothing-dropped a b }
 unfoldable pub start : ℕ → End
 start U = record { value = U; exact = true }
 
--- U minus a number is exact as the number is. ℕ's − stops at 0, which is never met: no end passes U (`reported-at-most`)
+-- U minus a number is exact as the number is. ℕ's − stops at 0, never met as no end passes U (`reported-at-most`)
 unfoldable pub end-complement : ℕ → End → End
 end-complement U r = record { value = U - r .value; exact = r .exact }
 
