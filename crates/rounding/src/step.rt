@@ -4,18 +4,9 @@ use crate::divide::divided;
 use crate::end::End;
 use crate::unit::UNIT;
 ghost use mathlib.Core.Path.{_≡_};
-ghost use Prim.Native.Nat.{_*_, _≤_};
 ghost use Rattle.theory.specs.Unit.{billion};
 ghost use Rattle.theory.specs.Rounding.{step, end-complement};
 ghost use Rattle.rounding.specs.Ends.{way, as-theory, as-code, InUnits};
-
-// The product of two ends, which is at most U × U.
-fn product(a: u32, b: u32) -> u64
-    requires { ⌜ a * b ≤ billion * billion ⌝ }
-    ensures { λ r. ⌜ r ≡ a * b ⌝ }
-{
-    (a as u64) * (b as u64)
-}
 
 // The running number times a factor, over U.
 pub fn step(direction: Direction, running: End, factor: End) -> End
@@ -23,7 +14,8 @@ pub fn step(direction: Direction, running: End, factor: End) -> End
     ensures { λ r. ⌜ r ≡ as-code (step billion (way direction) (as-theory running) (as-theory factor)) ⌝ }
     ensures { λ r. ⌜ InUnits billion r ⌝ }
 {
-    let quotient = divided(direction, product(running.value, factor.value), UNIT);
+    let product = (running.value as u64) * (factor.value as u64);
+    let quotient = divided(direction, product, UNIT);
     let zero = running.exact & (running.value == 0) | factor.exact & (factor.value == 0);
     End {
         value: quotient.value,

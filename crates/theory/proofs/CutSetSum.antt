@@ -7,7 +7,7 @@ use native.Mathlib.Nat.{add-zero, zero-add, mul-one, mul-zero, zero-mul, mul-pos
 use native.Mathlib.Omega.{arith}
 use lib.Dec.{T, eqb, lit<}
 use borrow.Author.Needs.{needs}
-use Rattle.theory.specs.Fraction.{Fraction, _≈_, complement, total}
+use Rattle.theory.specs.Fraction.{Fraction, _≈_, total}
 use Rattle.theory.specs.FaultTree.{contains}
 use Rattle.theory.specs.Unreliability.{EventSet, empty-set, with-event, subsets, those, factor, weight}
 use Rattle.theory.proofs.Missing.{false-of-not, both-of-not-or, eqb-same, eqb-comm}
@@ -79,19 +79,19 @@ weight-with : (p : ℕ → Fraction) (e : ℕ) (es : List ℕ) (s : EventSet) �
 weight-with p e [] s h = refl
 weight-with p e (x ∷ xs) s h =
     let (apart, absent) = both-of-not-or (eqb e x) (contains e xs) h in
-    ap₂ (λ (b : Bool) (y : ℕ). cond (b || s x) (p x) (complement (p x)) .num * y)
+    ap₂ (λ (b : Bool) (y : ℕ). factor p (λ i. b || s i) x .num * y)
     (false-of-not (eqb e x) apart) (weight-with p e xs s absent)
 
 -- an event outside a set multiplies its weight by 1 minus the event's probability
 weight-outside : (p : ℕ → Fraction) (e : ℕ) (es : List ℕ) (s : EventSet) → s e ≡ false
     → numerator p (e ∷ es) s ≡ (p e .den - p e .num) * numerator p es s
-weight-outside p e es s out = ap (λ (b : Bool). cond b (p e) (complement (p e)) .num * numerator p es s) out
+weight-outside p e es s out = ap (λ (b : Bool). factor p (λ i. b) e .num * numerator p es s) out
 
 -- an event added to a set multiplies its weight by the event's probability
 weight-added : (p : ℕ → Fraction) (e : ℕ) (es : List ℕ) (s : EventSet) → T (not (contains e es))
     → numerator p (e ∷ es) (with-event e s) ≡ p e .num * numerator p es s
 weight-added p e es s h =
-    ap₂ (λ (b : Bool) (y : ℕ). cond (b || s e) (p e) (complement (p e)) .num * y)
+    ap₂ (λ (b : Bool) (y : ℕ). factor p (λ i. b || s i) e .num * y)
     (eqb-same e) (weight-with p e es s h)
 
 -- the sum over the sets without a further event
@@ -127,7 +127,7 @@ weight-denominator : (p : ℕ → Fraction) (es : List ℕ) (s : EventSet) → w
 weight-denominator p [] s = refl
 weight-denominator p (e ∷ es) s = ap₂ _*_ (go (s e)) (weight-denominator p es s)
   where
-    go : (b : Bool) → cond b (p e) (complement (p e)) .den ≡ p e .den
+    go : (b : Bool) → factor p (λ i. b) e .den ≡ p e .den
     go true = refl
     go false = refl
 
