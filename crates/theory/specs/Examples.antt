@@ -5,7 +5,7 @@ use mathlib.Core.Path.{_≡_}
 use mathlib.Core.Bool.{true, false, cond}
 use mathlib.Core.List.{List, [], _∷_, map}
 use lib.ListN.{getD}
-use Rattle.theory.specs.Fraction.{Fraction, _≈_, in-units}
+use Rattle.theory.specs.Fraction.{Fraction, in-units}
 use Rattle.theory.specs.FaultTree.{GateKind, all, any, Tree, basic, gate, only, more, beneath}
 use Rattle.theory.specs.Unreliability.{EventSet, cut-sets, weight, unreliability}
 use Rattle.theory.specs.BottomUp.{bottom-up}
@@ -131,7 +131,7 @@ pub record Examples-4-5 : Type 0 where
   -- their weights are 0.8 · 0.9 · 0.4, 0.8 · 0.1 · 0.6 and 0.8 · 0.1 · 0.4
   pub weights-are : map (weight road-trip-probability (beneath road-trip)) (cut-sets road-trip)
       ≡ map (in-units 1000) (288 ∷ 48 ∷ 32 ∷ [])
-  -- the unreliability is 0.368
-  pub unreliability-is : unreliability road-trip-probability road-trip ≈ in-units 1000 368
-  -- so it is by the bottom-up method
-  pub bottom-up-is : bottom-up road-trip-probability road-trip ≈ in-units 1000 368
+  -- the unreliability is their sum, 0.368
+  pub unreliability-is : unreliability road-trip-probability road-trip ≡ in-units 1_000_000_000 368_000_000
+  -- so it is by the bottom-up method, 0.8 · (1 − (1 − 0.1) · (1 − 0.4))
+  pub bottom-up-is : bottom-up road-trip-probability road-trip ≡ in-units 1000 368
