@@ -1,4 +1,4 @@
--- Demand 3 of the reply for C, from monitor's of its outcome.
+-- Demands 2 and 3 of the reply for C, from monitor's of its outcome.
 use Prim.Native.Nat.{ℕ}
 use mathlib.Core.List.{List}
 use Rattle.theory.specs.Unit.{billion}

@@ -1,4 +1,4 @@
--- What a question answers C, and demand 3 of that reply.
+-- What a question answers C, and demands 2 and 3 of that reply.
 use Prim.Native.Nat.{ℕ}
 use mathlib.Core.Path.{_≡_}
 use mathlib.Core.Bool.{false}
@@ -50,6 +50,6 @@ report-in reply = record {
   events = reply .events;
 }
 
--- Demand 3 of every reply whose number is 0: monitor's `Kept` of the report in it and of every node's place.
+-- Demands 2 and 3 of every reply whose number is 0: monitor's `Kept` of the report in it and of every node's place.
 abbrev pub Promises-kept : Reply → List ℕ → List ℕ → ℕ → ℕ → Slices → Type 0
 Promises-kept reply tree sheet k n s = reply .refusal .number ≡ 0 → Kept billion (report-in reply) tree sheet k n s

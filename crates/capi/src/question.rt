@@ -56,7 +56,7 @@ fn reply_by(held: Held, outcome: Outcome) -> Reply
     }
 }
 
-// Questions level k of n. The last promise is demand 3, of the reply and of every node's place in the slices.
+// Questions level k of n. The last promise is demands 2 and 3, of the reply and of every node's place in the slices.
 #[no_mangle]
 pub extern "C" fn nekbrod_question(
     state: State,

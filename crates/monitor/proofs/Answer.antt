@@ -1,4 +1,4 @@
--- What the evaluation of a pair leaves, the report that is read from it, and demand 3 of both.
+-- What the evaluation of a pair leaves, the report that is read from it, and demands 2 and 3 of both.
 use Prim.Native.Nat.{ℕ, _-_, _<_}
 use mathlib.Core.Path.{_≡_, ap, _∙_}
 use mathlib.Core.List.{List}
@@ -15,7 +15,7 @@ use Rattle.evaluation.specs.Report.{node-end, node-enclosure, slices-after}
 use Rattle.evaluation.specs.Requirements.{Evaluable}
 use Rattle.evaluation.proofs.Places.{stored-at}
 use Rattle.evaluation.proofs.Turns.{filled-at}
-use Rattle.evaluation.proofs.NodePromises.{node-kept, node-encloses}
+use Rattle.evaluation.proofs.NodePromises.{node-bottom-up, node-interval-ends, node-kept, node-encloses}
 use Rattle.monitor.specs.Question.{root, report-of}
 use Rattle.monitor.specs.Promise.{Kept}
 
@@ -29,7 +29,8 @@ module _ (tree sheet : List ℕ) (nodes k n : ℕ) (before : Slices) (asked : Ev
   root-inside = omega (arith, asked .pair .tree-well-formed .header .nodes-least)
 
   -- a node's place holds its ends
-  stored : (w : Direction) (i : ℕ) → i < node-count tree → stored-end w after i ≡ node-end (unit sheet) w tree sheet k n i
+  stored : (w : Direction) (i : ℕ) → i < node-count tree
+      → stored-end w after i ≡ node-end (unit sheet) w tree sheet k n i
   stored w i l =
       stored-at (λ w. node-end (unit sheet) w tree sheet k n i)
       (filled-at (node-enclosure (unit sheet) tree sheet k n) before (node-count tree) i l
@@ -48,10 +49,12 @@ module _ (tree sheet : List ℕ) (nodes k n : ℕ) (before : Slices) (asked : Ev
         events = ee i;
       }
 
-  -- demand 3 of the report and of the slices
+  -- demands 2 and 3 of the report and of the slices
   pub answer-kept : Kept (unit sheet) (report-of (unit sheet) tree sheet k n) tree sheet k n after
   unfolding report-of
   answer-kept = record {
+    interval-ends = λ w i l. node-interval-ends tree sheet k n (asked .pair) w i l;
+    bottom-up-agrees = λ p h i l. node-bottom-up tree sheet k n (asked .pair) p h i l;
     node-ends = λ w i l. rw (stored w i l) (node-kept tree sheet k n (asked .pair) w i l);
     root-ends = λ w.
         rw (end-in-enclosure w (λ w. node-end (unit sheet) w tree sheet k n (root tree)))

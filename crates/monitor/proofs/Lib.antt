@@ -1,7 +1,8 @@
 -- What the calls' proofs share, in the order of the argument: a hand-in; the judging of what is held, rule by rule;
--- what a pair that is ready is; the answer and demand 3; the reply.
+-- what a pair that is ready is; the answer with demands 2 and 3; the reply; and that a question has no memory.
 pub mod HandIn
 pub mod Standing
 pub mod Ready
 pub mod Answer
 pub mod Reply
+pub mod NoMemory

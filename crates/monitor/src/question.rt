@@ -71,7 +71,7 @@ fn answered(
     }
 }
 
-// Questions level k of n. The last promise is demand 3, of the answer and of every node's place in the slices.
+// Questions level k of n. The last promise is demands 2 and 3, of the answer and of every node's place in the slices.
 pub fn question(
     state: State,
     tree_store: &[u8],

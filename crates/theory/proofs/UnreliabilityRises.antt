@@ -9,7 +9,7 @@ use Rattle.theory.specs.FaultTree.{Tree, beneath, Each}
 use Rattle.theory.specs.Unreliability.{fails, unreliability}
 use Rattle.theory.specs.Interval.{Interval, Inside, Ordered}
 use Rattle.theory.specs.Rounding.{down, up}
-use Rattle.theory.specs.Promise.{exact-end, Choice}
+use Rattle.theory.specs.Promise.{exact-end}
 use Rattle.theory.proofs.Each.{each-map, each-both}
 use Rattle.theory.proofs.Expectation.{bit, Probable, denominator-positive, expect-not}
 use Rattle.theory.proofs.ExpectationRises.{Raised, expect-rises}
@@ -51,12 +51,15 @@ inside-probability x p h i =
 
 -- the top probability lies between the exact ends, whatever the events' fractions are inside their cuts
 pub between-exact-ends : (cuts : ℕ → Interval) (t : Tree) (p : ℕ → Fraction) → Each (λ e. Ordered (cuts e)) (beneath t)
-    → Choice cuts t p → (exact-end down cuts t ≼ unreliability p t) × (unreliability p t ≼ exact-end up cuts t)
+    → Each (λ e. Inside (cuts e) (p e)) (beneath t)
+    → Inside (record { lower = exact-end down cuts t; upper = exact-end up cuts t }) (unreliability p t)
 between-exact-ends cuts t p h c =
     let chosen : Each (Probable p) (beneath t)
-    = each-both _ _ _ (λ e. inside-probability (cuts e) (p e)) (beneath t) h c in (
-      unreliability-rises _ p t (each-map _ _ (λ e o. o .lower-probability) (beneath t) h) chosen
-          (each-map _ _ (λ e i. i .above) (beneath t) c),
-      unreliability-rises p _ t chosen (each-map _ _ (λ e o. o .upper-probability) (beneath t) h)
-          (each-map _ _ (λ e i. i .below) (beneath t) c),
-    )
+    = each-both _ _ _ (λ e. inside-probability (cuts e) (p e)) (beneath t) h c in
+    record {
+      positive = unreliability-probability p t chosen .positive;
+      above = unreliability-rises _ p t (each-map _ _ (λ e o. o .lower-probability) (beneath t) h) chosen
+          (each-map _ _ (λ e i. i .above) (beneath t) c);
+      below = unreliability-rises p _ t chosen (each-map _ _ (λ e o. o .upper-probability) (beneath t) h)
+          (each-map _ _ (λ e i. i .below) (beneath t) c);
+    }

@@ -34,6 +34,12 @@ pub record Probability (p : Fraction) : Type 0 where
   pub positive : 0 < p .den
   pub at-most-one : p .num ≤ p .den
 
+-- f and g are the same probability: neither denominator is 0, without which equal crosswise products would say nothing
+pub record Same-probability (f g : Fraction) : Type 0 where
+  pub left : Probability f
+  pub right : Probability g
+  pub equal : f ≈ g
+
 abbrev pub one : Fraction
 one = record { num = 1; den = 1 }
 

@@ -3,7 +3,7 @@
 use Prim.Native.Nat.{ℕ, _<_}
 use mathlib.Core.Bool.{cond}
 use mathlib.Core.List.{List, [], _∷_, map}
-use Rattle.theory.specs.Fraction.{Fraction, Probability, _≼_, at-most, one, _⊗_, _⊖_}
+use Rattle.theory.specs.Fraction.{Fraction, Probability, _≼_, at-most, one, _⊗_, _⊖_, in-units}
 use Rattle.theory.specs.FaultTree.{GateKind, all, any, Tree, Inputs, basic, gate, only, more}
 
 pub record Interval : Type 0 where
@@ -15,6 +15,10 @@ pub record Inside (x : Interval) (p : Fraction) : Type 0 where
   pub positive : 0 < p .den
   pub above : x .lower ≼ p
   pub below : p ≼ x .upper
+
+-- from v to w units of which U make 1
+abbrev pub units-interval : ℕ → ℕ → ℕ → Interval
+units-interval U v w = record { lower = in-units U v; upper = in-units U w }
 
 -- an interval of probabilities
 pub record Ordered (x : Interval) : Type 0 where
@@ -52,7 +56,9 @@ abbrev pub interval-joined : GateKind → List Interval → Interval
 interval-joined all xs = interval-product xs
 interval-joined any xs = minus interval-one (interval-product (map (minus interval-one) xs))
 
--- equation (6): the alpha-cut of a node by the alpha-cuts of the events
+-- Equation (6) at one level: the alpha-cut of a node by the events' alpha-cuts at that level. 004 has (6) for whole
+-- fuzzy numbers, and its Theorem 1 says that it gives a tree's fuzzy unreliability. Each level may go by itself by its
+-- Lemma 1: the cut of a product or a difference is the product or the difference of the cuts.
 abbrev mutual
   pub interval-bottom-up : (ℕ → Interval) → Tree → Interval
   interval-bottom-up cuts (basic e) = cuts e

@@ -1,9 +1,9 @@
--- What is promised of a reported end and of the top probability (demand 3).
-use Prim.Native.Nat.{ℕ}
+-- What is promised of a reported end and of the top probability (demand 3), and of which fractions of the events.
+use Prim.Native.Nat.{ℕ, _<_}
 use mathlib.Core.Bool.{not}
 use lib.Dec.{T}
-use Rattle.theory.specs.Fraction.{Fraction, _≺_, _≈_, in-units, plus-units}
-use Rattle.theory.specs.FaultTree.{Tree, Each, beneath}
+use Rattle.theory.specs.Fraction.{Fraction, Probability, _≺_, _≈_, in-units, plus-units}
+use Rattle.theory.specs.FaultTree.{Tree}
 use Rattle.theory.specs.Unreliability.{unreliability}
 use Rattle.theory.specs.Interval.{Interval, Inside}
 use Rattle.theory.specs.Rounding.{Direction, down, up, End, end-of, reported}
@@ -29,6 +29,10 @@ pub record Promised (U : ℕ) (w : Direction) (A : ℕ) (r : End) (x : Fraction)
 abbrev pub exact-end : Direction → (ℕ → Interval) → Tree → Fraction
 exact-end w cuts t = unreliability (λ e. end-of w (cuts e)) t
 
--- a choice of fractions, one inside each cut of the events at or beneath the node
-abbrev pub Choice : (ℕ → Interval) → Tree → (ℕ → Fraction) → Type 0
-Choice cuts t p = Each (λ e. Inside (cuts e) (p e)) (beneath t)
+-- every event below E has a probability
+abbrev pub Probabilities : ℕ → (ℕ → Fraction) → Type 0
+Probabilities E p = (e : ℕ) → e < E → Probability (p e)
+
+-- a choice of fractions: every event below E has one inside its cut
+abbrev pub Choice : (ℕ → Interval) → ℕ → (ℕ → Fraction) → Type 0
+Choice cuts E p = (e : ℕ) → e < E → Inside (cuts e) (p e)
