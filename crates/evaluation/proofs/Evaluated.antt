@@ -18,7 +18,8 @@ use Rattle.rounding.specs.declared.end.Enclosure.{Enclosure}
 use Rattle.evaluation.specs.Slices.{Slices, ends, slice, stored-end, Long, after-turns, filled}
 use Rattle.evaluation.specs.Phases.{event-put, event-turn, gate-enclosure, gate-turn}
 use Rattle.evaluation.specs.Requirements.{Events-stored}
-use Rattle.evaluation.proofs.Places.{At, Same-at, Same-length, same-long, same-slices, same-enclosure, content-value, stored-at}
+use Rattle.evaluation.proofs.Places.{At, Same-at, Same-length, same-long, same-slices, same-enclosure}
+use Rattle.evaluation.proofs.Places.{content-value, stored-at}
 use Rattle.evaluation.proofs.Places.{put-length, put-here, put-other}
 use Rattle.evaluation.proofs.Turns.{Local, turns-length, turns-past, turns-at, filled-local, filled-at}
 use Rattle.evaluation.proofs.NodeEnds.{event-end, gate-end-by-inputs}
@@ -78,7 +79,8 @@ module _ (U : ℕ) (tree : List ℕ) (well-formed : WellFormed tree) (leaf : Dir
   leaves e = enclosure (λ w. leaf w e)
 
   -- once the events' places hold theirs, every done node's place holds its ends
-  node-ends-carried : (s : Slices) → ((m e : ℕ) → m < node-count tree → read-node tree m ≡ node.Event e → At s m (leaves e))
+  node-ends-carried : (s : Slices)
+      → ((m e : ℕ) → m < node-count tree → read-node tree m ≡ node.Event e → At s m (leaves e))
       → Carried U tree s (λ m s. At s m (node-ends m))
   node-ends-carried s events = record {
     stays = λ m s t same h p. same p ∙ h p;

@@ -20,7 +20,8 @@ use Rattle.evaluation.specs.Requirements.{Inputs-stored, Gate-stored, Ga
 use Rattle.evaluation.proofs.Places.{long-part, same-long}
 
 module _ {U : ℕ} {tree : List ℕ} {g : Gate} {lower upper marks : List ℕ}
-    (stored : Gate-stored U tree g (slices lower upper marks)) {links : List ℕ} (part : links ≡ links-from tree (g .first))
+    (stored : Gate-stored U tree g (slices lower upper marks)) {links : List ℕ}
+    (part : links ≡ links-from tree (g .first))
   where
     -- what the fold asks for the lower end
     pub lower-asked : Inputs-stored U links (g .inputs) lower marks

@@ -1,4 +1,4 @@
--- The second phase, node by node: what holds of every basic event's place, and of a gate's once it holds of its inputs',
+-- The second phase, node by node: what holds of each basic event's place, and of a gate's once it holds of its inputs',
 -- holds of every node that is done.
 use Prim.Native.Nat.{ℕ, zero, suc, _≤_, _<_}
 use mathlib.Core.Path.{_≡_, refl, sym, ap, subst, _∙_}
@@ -61,7 +61,7 @@ gates-local U tree = record {
     left i (node.Event e) s m ne p = refl
     left i (node.Gate g) s m ne p = put-other i (gate-enclosure U tree g s) s m ne p
 
--- A property of the place of a done node: it turns on that place alone, holds of the events, and of a gate by its inputs.
+-- A property of the place of a done node: it turns on that place alone, holds of events, and of a gate by its inputs.
 pub record Carried (U : ℕ) (tree : List ℕ) (s₀ : Slices) (Q : ℕ → Slices → Type 0) : Type 1 where
   pub stays : (m : ℕ) (s t : Slices) → Same-at s t m → Q m t → Q m s
   pub event : (m e : ℕ) → m < node-count tree → read-node tree m ≡ node.Event e → Q m s₀

@@ -35,7 +35,8 @@ module _ {tree sheet : List ℕ} {nodes k n : ℕ} {s₀ : Slices} (asked : Eval
     events-stored = (
       record {
         well-formed = asked .pair .tree-well-formed;
-        long = rw cut (same-long (turns-length (events-local cuts tree) nodes s₀) (le-of-eq (sym (asked .nodes-is))) (asked .long));
+        long = rw cut
+            (same-long (turns-length (events-local cuts tree) nodes s₀) (le-of-eq (sym (asked .nodes-is))) (asked .long));
         in-units = λ w i e l r.
             rw (
               cut,
@@ -49,7 +50,8 @@ module _ {tree sheet : List ℕ} {nodes k n : ℕ} {s₀ : Slices} (asked : Eval
     )
 
     -- the two phases report every node
-    pub reported : {after : Slices} → after ≡ after-turns (gate-turn billion tree) nodes s → after ≡ slices-after billion tree sheet k n s₀
+    pub reported : {after : Slices} → after ≡ after-turns (gate-turn billion tree) nodes s
+        → after ≡ slices-after billion tree sheet k n s₀
     unfolding node-end
     reported made =
         made ∙ rw (cut, asked .nodes-is)

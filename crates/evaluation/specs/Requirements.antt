@@ -30,6 +30,7 @@ pub record Evaluable (tree sheet : List ℕ) (nodes k n : ℕ) (s : Slices) : Ty
   pub long : Long nodes s
 
 -- The links of a gate lie inside the part that begins with them, and name nodes with a place and an end of at most U.
+-- The place is inside the slices, so the default 0 is never read.
 pub record Inputs-stored (U : ℕ) (links : List ℕ) (inputs : ℕ) (values marks : List ℕ) : Type 0 where
   pub has-link : (j : ℕ) → j < inputs → HasLink links j
   pub has-value : (j : ℕ) → j < inputs → linked links j < length values
@@ -43,7 +44,8 @@ pub record Gate-stored (U : ℕ) (tree : List ℕ) (g : Gate) (s : Slices) : Typ
   pub inputs-stored : (w : Direction)
       → Inputs-stored U (links-from tree (g .first)) (g .inputs) (slice (ends w) s) (s .marks)
 
--- Node i of a well-formed tree, and, where it is a gate, its inputs' stored ends.
+-- Node i of a well-formed tree, and, where it is a gate, its inputs' stored ends. Inputs are nodes of the tree, which
+-- have their places (`long`), so the default 0 is never read.
 pub record Gate-asked (U : ℕ) (tree : List ℕ) (i : ℕ) (s : Slices) : Type 0 where
   pub well-formed : WellFormed tree
   pub inside : i < node-count tree
@@ -51,7 +53,7 @@ pub record Gate-asked (U : ℕ) (tree : List ℕ) (i : ℕ) (s : Slices) : Type 
   pub in-units : (w : Direction) (g : Gate) → read-node tree i ≡ node.Gate g → (j : ℕ) → j < g .inputs
       → getD (slice (ends w) s) (linked (links-from tree (g .first)) j) 0 ≤ U
 
--- A well-formed tree, and the ends of its events stored.
+-- A well-formed tree, and the ends of its events stored, each at its place (`long`), so the default 0 is never read.
 pub record Events-stored (U : ℕ) (tree : List ℕ) (s : Slices) : Type 0 where
   pub well-formed : WellFormed tree
   pub long : Long (node-count tree) s

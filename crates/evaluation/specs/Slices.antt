@@ -31,7 +31,7 @@ content (ends down) x = x .lower .value
 content (ends up) x = x .upper .value
 content mark-bytes x = mark-byte x
 
--- The end at place i of a slice of ends and a slice of marks.
+-- The end at place i of a slice of ends and one of marks; the default 0 is never met: every node has a place (01's 25).
 abbrev pub end-at : Direction → List ℕ → List ℕ → ℕ → End
 end-at w values marks i = record { value = getD values i 0; exact = exact-in w (getD marks i 0) }
 

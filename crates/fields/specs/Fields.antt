@@ -4,7 +4,7 @@ use mathlib.Core.Path.{_≡_}
 use mathlib.Core.List.{List}
 use lib.ListN.{getD}
 
--- The byte at an offset, 0 past the end.
+-- The byte at an offset; 0 past the end, where nothing is read: 01's rules 1 and 5 on a file's length come first.
 abbrev pub byte : List ℕ → ℕ → ℕ
 byte s at = getD s at 0
 

@@ -1,2 +1,3 @@
--- Unsigned numbers in the bytes of a file, low byte first: `field16_at` reads `field16`, `field32_at` reads `field32`.
+-- Unsigned numbers in the bytes of a file, low byte first. The main contracts: `fields::byte_at` answers `byte`,
+-- `field16_at` answers `field16`, `field32_at` answers `field32`. `Is16` stands for contracts only.
 pub mod Fields

@@ -3,10 +3,10 @@ use Prim.Native.Nat.{ℕ}
 use mathlib.Core.List.{List, [], _∷_, map}
 use native.Mathlib.Nat.{le-refl, mul-le-mul, mul-pos, sub-le}
 use lib.Dec.{lit<}
-use Rattle.theory.specs.Fraction.{Fraction, Probability, one, _⊗_, complement}
+use Rattle.theory.specs.Fraction.{Fraction, Probability, one, _⊗_, complement, product}
 use Rattle.theory.specs.FaultTree.{GateKind, all, any, Tree, Inputs, basic, gate, only, more, events, all-events}
 use Rattle.theory.specs.FaultTree.{Each}
-use Rattle.theory.specs.BottomUp.{product, joined, bottom-up, all-bottom-up}
+use Rattle.theory.specs.BottomUp.{joined, bottom-up, all-bottom-up}
 use Rattle.theory.proofs.Each.{All, all-map, each-left, each-right}
 
 -- every fraction of a list is a probability

@@ -5,10 +5,10 @@ use mathlib.Core.Path.{_≡_, refl, ap, ap₂, _∙_}
 use mathlib.Core.Bool.{Bool, true, false, cond}
 use mathlib.Core.List.{List, [], _∷_, map}
 use borrow.Author.Tests.{le-leb}
-use Rattle.theory.specs.Fraction.{Fraction, _≼_, at-most, one, _⊗_, complement}
+use Rattle.theory.specs.Fraction.{Fraction, _≼_, at-most, one, _⊗_, complement, product}
 use Rattle.theory.specs.FaultTree.{GateKind, all, any, Tree, Inputs, basic, gate, only, more, events, all-events}
 use Rattle.theory.specs.FaultTree.{Each}
-use Rattle.theory.specs.BottomUp.{product, joined, bottom-up, all-bottom-up}
+use Rattle.theory.specs.BottomUp.{joined, bottom-up, all-bottom-up}
 use Rattle.theory.specs.Interval.{Interval, Ordered, lesser, greater, times, minus, interval-one}
 use Rattle.theory.specs.Interval.{interval-product, interval-joined, interval-bottom-up, all-intervals}
 use Rattle.theory.proofs.FractionOrder.{at-most-refl, product-monotone, complement-antitone, one-minus}

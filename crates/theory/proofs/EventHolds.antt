@@ -9,10 +9,10 @@ use lib.Dec.{T, eqb}
 use borrow.Author.Tests.{eqb-true}
 use Rattle.theory.specs.Fraction.{Fraction}
 use Rattle.theory.specs.FaultTree.{contains, Each}
-use Rattle.theory.specs.Unreliability.{common-denominator}
 use Rattle.theory.proofs.Missing.{false-of-not, or-lacks, eqb-same, eqb-comm}
 use Rattle.theory.proofs.Distinct.{Distinct}
-use Rattle.theory.proofs.Expectation.{bit, expect, Ignores, Probable, expect-one, expect-ignored}
+use Rattle.theory.proofs.Expectation.{bit, expect, common-denominator, Ignores, Probable, expect-one}
+use Rattle.theory.proofs.Expectation.{expect-ignored}
 use Rattle.theory.proofs.TestHolds.{Holds}
 
 -- whether e fails does not depend on another event

@@ -9,13 +9,18 @@ use native.Mathlib.Omega.{arith}
 use lib.Dec.{eqb, lit<}
 use Rattle.theory.specs.Fraction.{Fraction, Probability}
 use Rattle.theory.specs.FaultTree.{Each}
-use Rattle.theory.specs.Unreliability.{EventSet, empty-set, with-event, common-denominator}
+use Rattle.theory.specs.Unreliability.{EventSet, empty-set, with-event}
 use Rattle.theory.proofs.Missing.{or-swap}
 
 -- 1 for true, 0 for false
 abbrev pub bit : Bool → ℕ
 bit true = 1
 bit false = 0
+
+-- the product of the listed events' denominators: every weight of a set of them has it
+abbrev pub common-denominator : (ℕ → Fraction) → List ℕ → ℕ
+common-denominator p [] = 1
+common-denominator p (e ∷ es) = p e .den * common-denominator p es
 
 -- the expectation of f over the sets of the listed events, as a numerator over their common denominator
 abbrev pub expect : (ℕ → Fraction) → List ℕ → (EventSet → ℕ) → ℕ

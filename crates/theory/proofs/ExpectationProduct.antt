@@ -7,9 +7,9 @@ use native.Mathlib.Nat.{mul-comm, mul-one, sub-add-cancel}
 use native.Mathlib.Omega.{arith}
 use Rattle.theory.specs.Fraction.{Fraction, Probability}
 use Rattle.theory.specs.FaultTree.{Each}
-use Rattle.theory.specs.Unreliability.{EventSet, empty-set, with-event, common-denominator}
+use Rattle.theory.specs.Unreliability.{EventSet, empty-set, with-event}
 use Rattle.theory.proofs.Each.{each-map}
-use Rattle.theory.proofs.Expectation.{expect, Ignores, Probable, expect-with, with-swap}
+use Rattle.theory.proofs.Expectation.{expect, common-denominator, Ignores, Probable, expect-with, with-swap}
 
 -- an event of probability x separates two things: F or G says that one ignores it, or x is 0 or 1
 pub data Separated (x : Fraction) (F G : Type 0) : Type 0 where

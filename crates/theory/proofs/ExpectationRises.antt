@@ -7,8 +7,8 @@ use native.Mathlib.Nat.{sub-add-cancel, le-dest}
 use native.Mathlib.Omega.{arith}
 use Rattle.theory.specs.Fraction.{Fraction, Probability, _≼_}
 use Rattle.theory.specs.FaultTree.{Each}
-use Rattle.theory.specs.Unreliability.{EventSet, empty-set, with-event, common-denominator}
-use Rattle.theory.proofs.Expectation.{expect, Probable, with-swap}
+use Rattle.theory.specs.Unreliability.{EventSet, empty-set, with-event}
+use Rattle.theory.proofs.Expectation.{expect, common-denominator, Probable, with-swap}
 
 -- f is at most g on every set
 abbrev Below : (EventSet → ℕ) → (EventSet → ℕ) → Type 0

@@ -4,9 +4,9 @@ use Prim.Native.Nat.{ℕ, _+_, _-_, _<_}
 use native.Mathlib.Omega.{arith}
 use mathlib.Core.Path.{_≡_, refl, sym, _∙_}
 use mathlib.Core.List.{List, [], _∷_, map}
-use Rattle.theory.specs.Fraction.{Fraction, Probability, _⊗_, complement}
+use Rattle.theory.specs.Fraction.{Fraction, Probability, _⊗_, complement, product}
 use Rattle.theory.specs.FaultTree.{GateKind, all, any}
-use Rattle.theory.specs.BottomUp.{product, joined}
+use Rattle.theory.specs.BottomUp.{joined}
 use Rattle.theory.specs.Rounding.{Direction, down, up, opposite, End, start, end-complement, run, gate-end}
 use Rattle.theory.proofs.FractionEqual.{times-assoc, times-one, one-times}
 use Rattle.theory.proofs.BottomUpProbability.{All-probable, one-probability, product-probability}

@@ -1,5 +1,5 @@
--- What rounding means: the nearest whole number on the safe side. It is monotone, exact on whole numbers, and the same
--- however the fraction is written.
+-- Rounding means what specs/Rounding says of it: the nearest whole number on the safe side. It is monotone, exact on
+-- whole numbers, and the same however the fraction is written.
 use Prim.Native.Nat.{ℕ, zero, suc, _+_, _*_, _/_, _%_, _≤_, _<_}
 use native.Mathlib.Nat.{div-add-mod', mod-lt, mul-div-mul-right, lt-of-mul-lt-mul-right, le-of-mul-le-mul-right}
 use native.Mathlib.Nat.{mul-le-mul-right, mul-pos, zero-mul, mul-suc, add-suc, zero-mod, mul-mod-right}
@@ -7,7 +7,7 @@ use native.Mathlib.Nat.{le-refl, le-trans, le-antisymm}
 use native.Mathlib.Omega.{arith}
 use mathlib.Core.Path.{_≡_, refl, ap, sym, _∙_}
 use lib.Dec.{T, eqb, eqb·suc-zero}
-use Rattle.theory.specs.Rounding.{Direction, down, up, carry, rounded, nothing-dropped}
+use Rattle.theory.specs.Rounding.{Direction, down, up, IsRounded, carry, rounded, nothing-dropped}
 use Rattle.theory.proofs.Gap.{Gap}
 use Rattle.theory.proofs.Outward.{Outward, lower-of, upper-of, outward-widen}
 
@@ -27,21 +27,6 @@ pub rounded-outward : (w : Direction) (a b : ℕ) → 0 < b
 unfolding rounded nothing-dropped
 rounded-outward down a b p = record { gap = quotient-gap (a / b) (a % b) b a (div-add-mod' a b) (mod-lt a p) }
 rounded-outward up a b p = record { gap = quotient-gap-up (a / b) (a % b) b a (div-add-mod' a b) (mod-lt a p) }
-
--- v lies on the safe side of a / b: at or below it, or at or above it
-abbrev pub Safe : Direction → ℕ → ℕ → ℕ → Type 0
-Safe down a b v = v * b ≤ a
-Safe up a b v = a ≤ v * b
-
--- u lies no nearer than v
-abbrev pub No-nearer : Direction → ℕ → ℕ → Type 0
-No-nearer down u v = u ≤ v
-No-nearer up u v = v ≤ u
-
--- v is the safe number nearest to a / b: the greatest at or below it, or the least at or above it
-pub record IsRounded (w : Direction) (a b v : ℕ) : Type 0 where
-  pub safe : Safe w a b v
-  pub nearest : (u : ℕ) → Safe w a b u → No-nearer w u v
 
 -- the carry is 0 or 1
 pub carry-at-most-one : (r : ℕ) → carry r ≤ 1

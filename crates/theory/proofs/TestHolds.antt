@@ -6,15 +6,15 @@ use mathlib.Core.Bool.{Bool, true, false, not, _&&_, _||_}
 use mathlib.Core.List.{List, [], _∷_, map}
 use native.Mathlib.Nat.{mul-one, one-mul, zero-mul, sub-add-cancel, eq-of-mul-eq-mul-right}
 use native.Mathlib.Omega.{arith}
-use Rattle.theory.specs.Fraction.{Fraction, Probability, one, _⊗_, complement}
+use Rattle.theory.specs.Fraction.{Fraction, Probability, one, _⊗_, complement, product}
 use Rattle.theory.specs.FaultTree.{GateKind, all, any, Each}
-use Rattle.theory.specs.Unreliability.{EventSet, every, some, verdict, common-denominator}
-use Rattle.theory.specs.BottomUp.{product, joined}
+use Rattle.theory.specs.Unreliability.{EventSet, every, some, verdict}
+use Rattle.theory.specs.BottomUp.{joined}
 use Rattle.theory.proofs.Missing.{not-and}
 use Rattle.theory.proofs.Each.{All, all-map, each-map}
 use Rattle.theory.proofs.BottomUpProbability.{All-probable, products-probable, complements-probable}
 use Rattle.theory.proofs.Expectation.{bit, expect, Ignores, Probable, denominator-positive, expect-one}
-use Rattle.theory.proofs.Expectation.{expect-not}
+use Rattle.theory.proofs.Expectation.{common-denominator, expect-not}
 use Rattle.theory.proofs.ExpectationProduct.{Separated, separated-map, expect-product}
 
 -- the test f holds with the probability x, over the sets of the events es

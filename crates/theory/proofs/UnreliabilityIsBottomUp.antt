@@ -1,7 +1,7 @@
 -- The unreliability, the sum over all cut sets, is what the bottom-up method reckons (demand 2), for trees in which an
 -- event that stands under two inputs of one gate has the probability 0 or 1. Trees with distinct events meet that
 -- outright.
-use Prim.Native.Nat.{ℕ}
+use Prim.Native.Nat.{ℕ, _<_}
 use mathlib.Core.Path.{_≡_, refl, ap}
 use mathlib.Core.Bool.{Bool, true, false}
 use mathlib.Core.List.{List, [], _∷_}
@@ -10,14 +10,15 @@ use lib.Dec.{T, T-not}
 use Rattle.theory.specs.Fraction.{Fraction, _≈_}
 use Rattle.theory.specs.FaultTree.{Tree, Inputs, basic, gate, only, more, events, all-events, contains, beneath}
 use Rattle.theory.specs.FaultTree.{Each}
-use Rattle.theory.specs.Unreliability.{EventSet, verdict, fails, which-fail, common-denominator, unreliability}
+use Rattle.theory.specs.Unreliability.{EventSet, verdict, fails, which-fail, cut-sets, unreliability}
 use Rattle.theory.specs.BottomUp.{joined, bottom-up, all-bottom-up}
 use Rattle.theory.proofs.Distinct.{Distinct, each-once-distinct, lacks-append, distinct-append}
 use Rattle.theory.proofs.Each.{each-of-all, each-left, each-right, each-beneath, events-beneath}
 use Rattle.theory.proofs.BottomUpProbability.{all-bottom-up-probable}
-use Rattle.theory.proofs.Expectation.{bit, expect, Ignores, Probable}
+use Rattle.theory.proofs.FractionEqual.{equal-trans}
+use Rattle.theory.proofs.Expectation.{bit, expect, common-denominator, Ignores, Probable, denominator-positive}
 use Rattle.theory.proofs.ExpectationProduct.{Separated, left, right, never, always}
-use Rattle.theory.proofs.CutSetSum.{sum-is-expectation}
+use Rattle.theory.proofs.CutSetSum.{sum-is-expectation, sum-positive}
 use Rattle.theory.proofs.StructureFunction.{fails-ignores}
 use Rattle.theory.proofs.TestHolds.{Holds, All-ignore, All-separated, All-hold, values, holds-agree}
 use Rattle.theory.proofs.TestHolds.{verdict-holds}
@@ -102,21 +103,29 @@ mutual
         inputs-hold ts p es d h (each-right _ xs ys k) (each-right _ xs ys q) (i .1),
       )
 
--- the unreliability is the expectation of the structure function
-pub unreliability-expected : (p : ℕ → Fraction) (t : Tree)
-    → unreliability p t
-    ≡ record { num = expect p (beneath t) (λ s. bit (fails t s)); den = common-denominator p (beneath t) }
+-- the expectation of the structure function
+abbrev pub expected : (ℕ → Fraction) → Tree → Fraction
+expected p t = record { num = expect p (beneath t) (λ s. bit (fails t s)); den = common-denominator p (beneath t) }
+
+-- the unreliability is that expectation
+pub unreliability-expected : (p : ℕ → Fraction) (t : Tree) → unreliability p t ≈ expected p t
 unfolding unreliability
-unreliability-expected p t =
-    ap (λ (n : ℕ). record { num = n; den = common-denominator p (beneath t) })
-    (sum-is-expectation p (beneath t) (fails t) (each-once-distinct (events t)))
+unreliability-expected p t = sum-is-expectation p (beneath t) (fails t) (each-once-distinct (events t))
+
+-- its denominator is above 0 for probabilities
+pub unreliability-positive : (p : ℕ → Fraction) (t : Tree) → Each (Probable p) (beneath t)
+    → 0 < unreliability p t .den
+unfolding unreliability
+unreliability-positive p t h = sum-positive p (beneath t) (cut-sets t) (denominator-positive p (beneath t) h)
 
 -- demand 2: the sum over all cut sets is the bottom-up reckoning, as a fraction
 pub unreliability-is-bottom-up : (p : ℕ → Fraction) (t : Tree) → Each (Probable p) (events t) → Repeats-certain p t
     → unreliability p t ≈ bottom-up p t
 unreliability-is-bottom-up p t h i =
-    rw (unreliability-expected p t)
-    (tree-holds t p (beneath t) (each-once-distinct (events t)) (each-beneath (Probable p) t h) (events-beneath t) h i)
+    let probable = each-beneath (Probable p) t h in
+    equal-trans (unreliability p t) (expected p t) (bottom-up p t) (denominator-positive p (beneath t) probable)
+    (unreliability-expected p t)
+    (tree-holds t p (beneath t) (each-once-distinct (events t)) probable (events-beneath t) h i)
 
 mutual
   -- distinct events repeat none

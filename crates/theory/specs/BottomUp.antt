@@ -1,12 +1,8 @@
 -- The bottom-up method without rounding (004, equation (5)).
 use Prim.Native.Nat.{ℕ}
 use mathlib.Core.List.{List, [], _∷_, map}
-use Rattle.theory.specs.Fraction.{Fraction, one, _⊗_, complement}
+use Rattle.theory.specs.Fraction.{Fraction, complement, product}
 use Rattle.theory.specs.FaultTree.{GateKind, all, any, Tree, Inputs, basic, gate, only, more}
-
-abbrev pub product : List Fraction → Fraction
-product [] = one
-product (p ∷ ps) = p ⊗ product ps
 
 -- a gate's probability by those of its inputs: AND their product, OR 1 − the product of 1 − each
 abbrev pub joined : GateKind → List Fraction → Fraction

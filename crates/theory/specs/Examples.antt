@@ -1,9 +1,14 @@
 -- The table of proved examples (01, P1 to P12): a tree, its events' numbers, a level, and the ends and marks reported.
+-- 004's examples 4 and 5: the road trip's cut sets, their weights and its unreliability.
 use Prim.Native.Nat.{ℕ}
-use mathlib.Core.Bool.{true, false}
-use mathlib.Core.List.{List, [], _∷_}
+use mathlib.Core.Path.{_≡_}
+use mathlib.Core.Bool.{true, false, cond}
+use mathlib.Core.List.{List, [], _∷_, map}
 use lib.ListN.{getD}
-use Rattle.theory.specs.FaultTree.{GateKind, all, any, Tree, basic, gate, only, more}
+use Rattle.theory.specs.Fraction.{Fraction, in-units}
+use Rattle.theory.specs.FaultTree.{GateKind, all, any, Tree, basic, gate, only, more, beneath}
+use Rattle.theory.specs.Unreliability.{EventSet, cut-sets, weight, unreliability}
+use Rattle.theory.specs.BottomUp.{bottom-up}
 use Rattle.theory.specs.Trapezoid.{Trapezoid, cut}
 use Rattle.theory.specs.Opinion.{says, low, fairly-low, medium, fairly-high, high, mean}
 use Rattle.theory.specs.Unit.{billion}
@@ -34,7 +39,7 @@ pub record Example : Type 0 where
   pub lower : End
   pub upper : End
 
--- what the rounded evaluation reports of an example, in a direction
+-- what the rounded evaluation reports of an example, in a direction; every event has an entry, none takes the default
 abbrev pub outcome : Direction → Example → End
 outcome w x = reported billion w (λ e. cut (getD (x .entries) e (crisp 0)) (x .k) (x .n)) (x .tree)
 
@@ -46,7 +51,7 @@ single = basic 0
 abbrev pub pair : GateKind → Tree
 pair kind = gate kind (more (basic 0) (only (basic 1)))
 
--- 004's road trip (figure 3): event 0 and either event 1 or event 2
+-- 004's road trip (figure 3): the phone (a, event 0) and either the engine (b, event 1) or the battery (c, event 2)
 abbrev pub road-trip : Tree
 road-trip = gate all (more (basic 0) (only (gate any (more (basic 1) (only (basic 2))))))
 
@@ -110,3 +115,23 @@ P12 = at-level 2 six-experts (about 723_548_387) (about 723_548_388)
 
 abbrev pub table : List Example
 table = P1 ∷ P2 ∷ P3 ∷ P4 ∷ P5 ∷ P6 ∷ P7 ∷ P8 ∷ P9 ∷ P10 ∷ P11 ∷ P12 ∷ []
+
+-- 004, Example 4: p(a) = 0.8, p(b) = 0.1, p(c) = 0.4; there is no further event to take the default
+abbrev pub road-trip-probability : ℕ → Fraction
+road-trip-probability e = in-units 10 (getD (8 ∷ 1 ∷ 4 ∷ []) e 0)
+
+-- a set of its events as 004 writes it: the digits of a, b, c
+abbrev pub digits : EventSet → List ℕ
+digits s = map (λ e. cond (s e) 1 0) (0 ∷ 1 ∷ 2 ∷ [])
+
+-- What 004 reckons of the road trip in its examples 4 and 5.
+pub record Examples-4-5 : Type 0 where
+  -- the cut sets are 101, 110 and 111
+  pub cut-sets-are : map digits (cut-sets road-trip) ≡ (1 ∷ 0 ∷ 1 ∷ []) ∷ (1 ∷ 1 ∷ 0 ∷ []) ∷ (1 ∷ 1 ∷ 1 ∷ []) ∷ []
+  -- their weights are 0.8 · 0.9 · 0.4, 0.8 · 0.1 · 0.6 and 0.8 · 0.1 · 0.4
+  pub weights-are : map (weight road-trip-probability (beneath road-trip)) (cut-sets road-trip)
+      ≡ map (in-units 1000) (288 ∷ 48 ∷ 32 ∷ [])
+  -- the unreliability is their sum, 0.368
+  pub unreliability-is : unreliability road-trip-probability road-trip ≡ in-units 1_000_000_000 368_000_000
+  -- so it is by the bottom-up method, 0.8 · (1 − (1 − 0.1) · (1 − 0.4))
+  pub bottom-up-is : bottom-up road-trip-probability road-trip ≡ in-units 1000 368

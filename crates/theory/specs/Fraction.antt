@@ -3,11 +3,12 @@
 use Prim.Native.Nat.{ℕ, _+_, _-_, _*_, _≤_, _<_}
 use mathlib.Core.Path.{_≡_}
 use mathlib.Core.Bool.{Bool}
+use mathlib.Core.List.{List, [], _∷_}
 use lib.Dec.{leb}
 
 infix 4 _≼_ _≺_ _≈_
 infixl 40 _⊗_
-infixl 35 _⊖_
+infixl 35 _⊕_ _⊖_
 pub record Fraction : Type 0 where
   pub num : ℕ
   pub den : ℕ
@@ -45,11 +46,24 @@ one = record { num = 1; den = 1 }
 abbrev pub _⊗_ : Fraction → Fraction → Fraction
 f ⊗ g = record { num = f .num * g .num; den = f .den * g .den }
 
+abbrev pub _⊕_ : Fraction → Fraction → Fraction
+f ⊕ g = record { num = f .num * g .den + g .num * f .den; den = f .den * g .den }
+
+-- the product of a list, 1 where it is empty
+abbrev pub product : List Fraction → Fraction
+product [] = one
+product (f ∷ fs) = f ⊗ product fs
+
+-- the sum of a list, 0 where it is empty
+abbrev pub total : List Fraction → Fraction
+total [] = record { num = 0; den = 1 }
+total (f ∷ fs) = f ⊕ total fs
+
 -- f − g. ℕ's − stops at 0, which is never met where g is at most f
 abbrev pub _⊖_ : Fraction → Fraction → Fraction
 f ⊖ g = record { num = f .num * g .den - g .num * f .den; den = f .den * g .den }
 
--- 1 − p for a probability p, over p's own denominator
+-- 1 − p, over p's own denominator. ℕ's − stops at 0, which is never met where p is at most 1 (`Probability`)
 abbrev pub complement : Fraction → Fraction
 complement p = record { num = p .den - p .num; den = p .den }
 

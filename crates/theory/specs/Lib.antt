@@ -1,6 +1,9 @@
--- Fuzzy fault trees: what a reader must believe. Read the files in this order, beside papers 004 and document 01.
+-- Fuzzy fault trees: what a reader must believe. Read the files in this order, beside paper 004 and document 01.
 -- Nothing here knows of bytes or machine widths, and the unit U is a parameter.
--- The main theorems are in proofs/: `unreliability-is-bottom-up`, `cut-is-bottom-up`, `end-promised`, `top-contained`.
+-- The main theorems are in proofs/. Of every node of a table (NodePromised): `node-agrees` and `node-exact-ends` are
+-- demand 2, `node-promised` and `node-contained` demand 3. `rounded` is what `IsRounded` says, and nothing else is:
+-- `rounded-is-rounded`, `rounded-unique` (RoundingMeaning). The examples: `examples-hold`, `examples-4-5-hold`.
+-- GateFold stands for contracts inside evaluation only.
 pub mod Fraction
 pub mod FaultTree
 pub mod Unreliability

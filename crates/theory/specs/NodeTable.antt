@@ -26,7 +26,7 @@ abbrev pub build : (ℕ → Tree) → (ℕ → ℕ) → Node → Tree
 build tree link (event e) = basic e
 build tree link (joint k a n) = gate k (inputs tree link a n)
 
--- the tree of node i, grown so many levels deep; what lies deeper is not reached where links lead to lower ranks
+-- the tree of node i, grown so many levels deep; from `tree-of` level 0 is never met: ranks fall along links (`Ranked`)
 abbrev pub grown : Table → ℕ → ℕ → Tree
 grown table zero i = basic 0
 grown table (suc depth) i = build (grown table depth) (table .link) (table .node i)

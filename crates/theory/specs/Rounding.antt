@@ -1,6 +1,6 @@
 -- Outward rounding to units of which U make 1: the step of a gate with its mark, and the rounded evaluation of a tree
 -- (01, "A level, and the way up"). One definition serves both directions: lower ends are rounded down, upper ends up.
-use Prim.Native.Nat.{ℕ, zero, suc, _+_, _-_, _*_, _/_, _%_}
+use Prim.Native.Nat.{ℕ, zero, suc, _+_, _-_, _*_, _/_, _%_, _≤_}
 use mathlib.Core.Bool.{Bool, true, _&&_, _||_}
 use mathlib.Core.List.{List, [], _∷_, map}
 use lib.Dec.{eqb}
@@ -15,12 +15,27 @@ abbrev pub opposite : Direction → Direction
 opposite down = up
 opposite up = down
 
+-- v lies on the safe side of a / b: at or below it, or at or above it
+abbrev pub Safe : Direction → ℕ → ℕ → ℕ → Type 0
+Safe down a b v = v * b ≤ a
+Safe up a b v = a ≤ v * b
+
+-- of two numbers on the safe side, u lies no nearer than v
+abbrev pub No-nearer : Direction → ℕ → ℕ → Type 0
+No-nearer down u v = u ≤ v
+No-nearer up u v = v ≤ u
+
+-- What rounding a / b means: v is the greatest number at or below it, or the least at or above it.
+pub record IsRounded (w : Direction) (a b v : ℕ) : Type 0 where
+  pub safe : Safe w a b v
+  pub nearest : (u : ℕ) → Safe w a b u → No-nearer w u v
+
 -- 0 for a remainder of 0, and 1 for any other
 abbrev pub carry : ℕ → ℕ
 carry zero = 0
 carry (suc r) = 1
 
--- a / b, rounded
+-- a / b rounded: for b above 0 the one number of which `IsRounded` speaks (`rounded-is-rounded`, `rounded-unique`)
 unfoldable pub rounded : Direction → ℕ → ℕ → ℕ
 rounded down a b = a / b
 rounded up a b = a / b + carry (a % b)
@@ -42,7 +57,7 @@ divided w a b = record { value = rounded w a b; exact = nothing-dropped a b }
 unfoldable pub start : ℕ → End
 start U = record { value = U; exact = true }
 
--- U minus a number is exact as the number is
+-- U minus a number is exact as the number is. ℕ's − stops at 0, never met as no end passes U (`reported-at-most`)
 unfoldable pub end-complement : ℕ → End → End
 end-complement U r = record { value = U - r .value; exact = r .exact }
 

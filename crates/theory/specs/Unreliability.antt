@@ -1,10 +1,10 @@
 -- The structure function, cut sets and the unreliability (004, Definitions 6 and 7; 01, "A level, and the way up").
 -- The unreliability is the literal sum over all cut sets, unrounded.
-use Prim.Native.Nat.{ℕ, _+_, _-_, _*_}
+use Prim.Native.Nat.{ℕ}
 use mathlib.Core.Bool.{Bool, true, false, cond, _&&_, _||_}
 use mathlib.Core.List.{List, [], _∷_, _++_, map}
 use lib.Dec.{eqb}
-use Rattle.theory.specs.Fraction.{Fraction}
+use Rattle.theory.specs.Fraction.{Fraction, complement, product, total}
 use Rattle.theory.specs.FaultTree.{GateKind, all, any, Tree, Inputs, basic, gate, only, more, beneath}
 
 -- a set of events (004's safety event): for each event, whether it is in the set
@@ -56,24 +56,14 @@ those f (s ∷ ss) = cond (f s) (s ∷ those f ss) (those f ss)
 abbrev pub cut-sets : Tree → List EventSet
 cut-sets t = those (fails t) (subsets (beneath t))
 
--- The weight of a set: the product of the probabilities of its events and of 1 minus the probability of each other
--- listed event. It is given by its numerator; its denominator is `common-denominator`, the same for every set.
-abbrev pub weight : (ℕ → Fraction) → List ℕ → EventSet → ℕ
-weight p [] s = 1
-weight p (e ∷ es) s = cond (s e) (p e .num) (p e .den - p e .num) * weight p es s
+-- an event's factor in the weight of a set: its probability where it is in the set, 1 minus that where it is not
+abbrev pub factor : (ℕ → Fraction) → EventSet → ℕ → Fraction
+factor p s e = cond (s e) (p e) (complement (p e))
 
-abbrev pub common-denominator : (ℕ → Fraction) → List ℕ → ℕ
-common-denominator p [] = 1
-common-denominator p (e ∷ es) = p e .den * common-denominator p es
+-- the weight of a set: the product of the listed events' factors
+abbrev pub weight : (ℕ → Fraction) → List ℕ → EventSet → Fraction
+weight p es s = product (map (factor p s) es)
 
-abbrev pub total : List ℕ → ℕ
-total [] = 0
-total (x ∷ xs) = x + total xs
-
--- Definition 7: the sum of the weights of all the tree's cut sets. They share a denominator, so their
--- numerators are added.
+-- Definition 7: the sum of the weights of all the tree's cut sets
 unfoldable pub unreliability : (ℕ → Fraction) → Tree → Fraction
-unreliability p t = record {
-  num = total (map (weight p (beneath t)) (cut-sets t));
-  den = common-denominator p (beneath t);
-}
+unreliability p t = total (map (weight p (beneath t)) (cut-sets t))

@@ -38,7 +38,8 @@ loop-again : tie.Need-loop-again Inv-loop μ-loop
 loop-again c =
     let put = c .before .before .before .before .before .before in
     let node = put .before .before .before .before in
-    gates-next billion (lit< tt) _ _ (node .before .before .loop .inv) (node .before .loop-test .taken) (node .node-in-order .ensures)
+    gates-next billion (lit< tt) _ _ (node .before .before .loop .inv) (node .before .loop-test .taken)
+    (node .node-in-order .ensures)
     (put .put-gate .ensures)
 
 same-length : tie.Need-same-length Inv-loop μ-loop
