@@ -1,5 +1,5 @@
--- The laws of document 01's order: it is strict and decided, and how the first fault of a list or a row of rules is held
--- to it.
+-- The laws of document 01's order: it is strict and decided, and how the first fault of a list or a row of rules is
+-- held to it.
 use Prim.Native.Nat.{ℕ, zero, suc, _<_}
 use mathlib.Core.Path.{_≡_, refl, sym, subst, _∙_}
 use mathlib.Core.Logic.{_⊎_, inl, inr}
@@ -9,7 +9,8 @@ use native.Mathlib.Nat.{not-suc-le-zero}
 use native.Mathlib.Omega.{arith}
 use Rattle.refusals.specs.Number.{number-of}
 use Rattle.refusals.specs.FirstFault.{unless, _or-else_, first-among}
-use Rattle.refusals.specs.Order.{refusal, stage, order-place, Earlier, by-stage, by-place, by-number, First, Finds}
+use Rattle.refusals.specs.Order.{refusal, stage, order-place, Earlier, by-stage, by-place, by-number}
+use Rattle.refusals.specs.Order.{First, Finds}
 use Rattle.refusals.specs.declared.rule.Rule.{Rule}
 use Rattle.refusals.specs.declared.refusal.Refusal.{Refusal}
 use Rattle.refusals.specs.declared.refusal.FirstFault.{FirstFault}
@@ -98,8 +99,8 @@ module _ (q : Refusal) where
       → UpTo q (first-among fault n)
   up-to-among fault zero h = rw (among-none fault) up-to-absent
   up-to-among fault (suc n) h =
-      rw (among-next fault n)
-      (up-to-either (first-among fault n) (fault n) (up-to-among fault n (λ i l. h i (omega arith))) (h n (omega arith)))
+      let before = up-to-among fault n (λ i l. h i (omega arith)) in
+      rw (among-next fault n) (up-to-either (first-among fault n) (fault n) before (h n (omega arith)))
 
   -- the rule is broken
   pub stops-here : (b : Bool) → b ≡ false → Stops q (unless b (q .rule) (q .place))

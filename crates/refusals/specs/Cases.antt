@@ -12,8 +12,8 @@ pub data Rising : List Refusal → Type 0 where
   last : {r : Refusal} → Rising (r ∷ [])
   _then_ : {r q : Refusal} {rest : List Refusal} → Earlier r q → Rising (q ∷ rest) → Rising (r ∷ q ∷ rest)
 
--- A tree file of three nodes: the header; the records at 9, 14 and 19, each with its kind first; the sum at 24; the links
--- at 24 and 26; the store.
+-- A tree file of three nodes: the header; the records at 9, 14 and 19, each with its kind first; the sum at 24; the
+-- links at 24 and 26; the store.
 abbrev pub tree-turns : List Refusal
 tree-turns =
     refusal rule.TooShort 8
@@ -51,8 +51,8 @@ tree-rises =
     then by-stage (lit< tt)
     then last
 
--- A sheet of two entries: the header, E before the experts; the scores from 10 to 25; the entries at 26 and 43, each with
--- its kind first, then 10, or 11 at its terms and then 12; the store.
+-- A sheet of two entries: the header, E before the experts; the scores from 10 to 25; the entries at 26 and 43, each
+-- with its kind first, then 10, or 11 at its terms and then 12; the store.
 abbrev pub sheet-turns : List Refusal
 sheet-turns =
     refusal rule.TooShort 25

@@ -1,6 +1,7 @@
--- The order in which faults are found. Document 01: "1 to 5 (E before experts); scores; records or entries rising, kind
--- first; the sum; links rising, 8 before 9; then 20. In an opinion entry 11 precedes 12. A question: 13, 21, 22, 23 tree,
--- 23 sheet, 24, 25." It is one order: by stage, then by place, then by number. `Cases` reads the sentence out.
+-- The order in which faults are found. Document 01: "1 to 5 (E before experts); scores; records or entries rising,
+-- kind first; the sum; links rising, 8 before 9; then 20. In an opinion entry 11 precedes 12. A question: 13, 21, 22,
+-- 23 tree, 23 sheet, 24, 25." It is one order: by stage, then by place, then by number. `Cases` reads the sentence
+-- out.
 use Prim.Native.Nat.{ℕ, _+_, _<_}
 use mathlib.Core.Path.{_≡_}
 use mathlib.Core.Logic.{_⊎_}
@@ -16,12 +17,14 @@ use Rattle.refusals.specs.declared.refusal.FirstFault.the-variants.{Foun
 abbrev pub refusal : Rule → ℕ → Refusal
 refusal rule place = record { rule = rule; place = place }
 
--- The stages rise with the numbers. What stands behind a header's counts, 6 to 12, is one stage: it is read as it stands.
+-- The stages rise with the numbers. What stands behind a header's counts, 6 to 12, is one stage: it is read as it
+-- stands.
 abbrev pub stage : Refusal → ℕ
 stage r = let n = number-of (r .rule) in cond (leb 6 n && leb n 12) 6 n
 
--- The place that counts in the order: E stands before the experts, a score before the entries, a record before the sum and
--- the links, a tree (0) before a sheet (1). That nobody spoke, 12, is seen at the last of the entry's sixteen terms.
+-- The place that counts in the order: E stands before the experts, a score before the entries, a record before the
+-- sum and the links, a tree (0) before a sheet (1). That nobody spoke, 12, is seen at the last of the entry's sixteen
+-- terms.
 abbrev pub order-place : Refusal → ℕ
 order-place r = cond (eqb (number-of (r .rule)) 12) (r .place + 16) (r .place)
 
@@ -32,7 +35,8 @@ pub data Earlier (r q : Refusal) : Type 0 where
   -- in one stage, it has an earlier place
   by-place : stage r ≡ stage q → order-place r < order-place q → Earlier r q
   -- at one place, it has a lower number: the kind before the fields, the sum before a link, 8 before 9, 11 before 12
-  by-number : stage r ≡ stage q → order-place r ≡ order-place q → number-of (r .rule) < number-of (q .rule) → Earlier r q
+  by-number : stage r ≡ stage q → order-place r ≡ order-place q → number-of (r .rule) < number-of (q .rule)
+      → Earlier r q
 
 -- Of all rules that are broken, this is the first.
 pub record First (Broken : Refusal → Type 0) (r : Refusal) : Type 0 where
