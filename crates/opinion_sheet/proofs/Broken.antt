@@ -25,9 +25,10 @@ use Rattle.opinion_sheet.specs.TermRules.{term-rule, term-fault, spoke-a
 use Rattle.opinion_sheet.specs.EntryRules.{numbers-of, numbers-rule, entry-fault, entries-fault}
 use Rattle.opinion_sheet.specs.Judged.{fault-of, counts-of, judged}
 use Rattle.opinion_sheet.specs.WellFormed.{WellFormedHeader, WellFormedNumbers}
-use Rattle.opinion_sheet.specs.Broken.{Outside, WrongScore, WrongTerm, above-all, Breaks, too-short, wrong-letters}
+use Rattle.opinion_sheet.specs.Broken.{Outside, WrongScore, WrongTerm, Breaks, too-short, wrong-letters}
 use Rattle.opinion_sheet.specs.Broken.{wrong-version, wrong-events, wrong-experts, wrong-length, unknown-kind}
 use Rattle.opinion_sheet.specs.Broken.{wrong-score, number-order, wrong-term, nobody-spoke}
+use Rattle.opinion_sheet.specs.declared.entry.Numbers.{Numbers}
 use Rattle.opinion_sheet.specs.declared.judgement.Counts.{Counts}
 use Rattle.opinion_sheet.specs.declared.judgement.Judgement.the-variants.{Accepted, Refused}
 use Rattle.opinion_sheet.proofs.HeaderLaws.{header-well-formed}
@@ -156,10 +157,11 @@ module _ (file : List ℕ) (e : ℕ) where
   abbrev Kind : Refusal → Type 0
   Kind = Case ((kind file e ≡ 0 → ⊥) × (kind file e ≡ 1 → ⊥)) rule.UnknownKind (entry-at file e)
 
-  abbrev Numbers : Refusal → Type 0
-  Numbers =
-      Case ((kind file e ≡ 0) × (WellFormedNumbers (unit file) (numbers-of file (entry-at file e)) → ⊥)) rule.NumberOrder
-      (entry-at file e)
+  abbrev four : Numbers
+  four = numbers-of file (entry-at file e)
+
+  abbrev Falling : Refusal → Type 0
+  Falling = Case ((kind file e ≡ 0) × (WellFormedNumbers (unit file) four → ⊥)) rule.NumberOrder (entry-at file e)
 
   abbrev Term : ℕ → Refusal → Type 0
   Term i = Case ((kind file e ≡ 1) × WrongTerm file (terms-at file e) i) rule.WrongTerm (terms-at file e + i)
@@ -173,7 +175,7 @@ module _ (file : List ℕ) (e : ℕ) where
   silence-fault = unless (spoke-among file (terms-at file e) 16) rule.NobodySpoke (entry-at file e)
 
   abbrev Entry : Refusal → Type 0
-  Entry q = Kind q ⊎ (Numbers q ⊎ (Among Term 16 q ⊎ Silence q))
+  Entry q = Kind q ⊎ (Falling q ⊎ (Among Term 16 q ⊎ Silence q))
 
   -- An entry's refusals come after the header's, and lie inside the entry.
   pub record Inside (q : Refusal) : Type 0 where
@@ -199,12 +201,11 @@ module _ (file : List ℕ) (e : ℕ) where
   finds-numbers : kind file e ≡ 0 → Finds Entry (entry-fault (unit file) file e)
   finds-numbers z =
       rw (eq-eqb (kind file e) 0 z)
-      (finds-same (unless (numbers-rule (unit file) (numbers-of file (entry-at file e))) rule.NumberOrder (entry-at file e))
-      (λ q b. inr (inl b)) from
-      (finds-unless (numbers-rule (unit file) (numbers-of file (entry-at file e))) rule.NumberOrder (entry-at file e) _
-      (λ n. (z, order-says (unit file) _ n)) (λ b. order-shows (unit file) _ (b .1))))
+      (finds-same (unless (numbers-rule (unit file) four) rule.NumberOrder (entry-at file e)) (λ q b. inr (inl b)) from
+      (finds-unless (numbers-rule (unit file) four) rule.NumberOrder (entry-at file e) _
+      (λ n. (z, order-says (unit file) four n)) (λ b. order-shows (unit file) four (b .1))))
     where
-      from : (q : Refusal) → Entry q → Numbers q
+      from : (q : Refusal) → Entry q → Falling q
       from q (inl b) = absurd (b .0 .0 z)
       from q (inr (inl b)) = b
       from q (inr (inr (inl b))) = absurd (omega (arith, b .1 .1 .0 .0))
@@ -232,7 +233,8 @@ module _ (file : List ℕ) (e : ℕ) where
         go (no k) (no d) = omega arith
         go (no k) (yes d) =
             let kept =
-            unless-holds _ rule.WrongTerm (terms-at file e + i) (among-each (term-fault file (terms-at file e)) 16 none i l) in
+            unless-holds _ rule.WrongTerm (terms-at file e + i)
+            (among-each (term-fault file (terms-at file e)) 16 none i l) in
             let broken = term-shows file (terms-at file e) i (WrongTerm.after (omega arith) d) in
             absurd (false≢true (sym broken ∙ kept))
 
@@ -330,7 +332,8 @@ module _ (file : List ℕ) where
       let w = header-well-formed file h in
       finds-either (scores-fault file) (entries-fault (unit file) file or-else Absent)
       (finds-scores file (omega (arith, w .length-value)))
-      (λ s. finds-last (Among Of-entry (event-count file)) (entries-fault (unit file) file) (finds-entries w)) scores-entries) header-rest
+      (λ s. finds-last (Among Of-entry (event-count file)) (entries-fault (unit file) file) (finds-entries w))
+      scores-entries) header-rest
 
   -- A part's refusal is a rule that the file breaks,
   header-breaks : (q : Refusal) → From-start file q → Breaks file q

@@ -1,4 +1,5 @@
--- The laws of this crate, in the order of the argument: each part judged, what acceptance means, the mean, the cut.
+-- The laws of this crate, in the order of the argument: each part judged, what acceptance means, what a refusal means,
+-- the mean, the cut.
 pub mod HeaderLaws
 pub mod ScoreLaws
 pub mod TermLaws

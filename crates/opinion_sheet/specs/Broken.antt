@@ -1,6 +1,6 @@
--- What is wrong with a sheet: `Breaks file r` says that the file breaks that rule at that place. One clause for each rule
--- of document 01's list, 1 to 7 and 10 to 12, and no order among them. Judging finds the first of them in document 01's
--- order, and nothing exactly where none is broken: `first-broken` of proofs/Broken.
+-- What is wrong with a sheet: `Breaks file r` says that the file breaks that rule at that place. One clause for each
+-- rule of document 01's list, 1 to 7 and 10 to 12, and no order among them. Judging finds the first of them in document
+-- 01's order, and nothing exactly where none is broken: `first-broken` of proofs/Broken.
 --
 -- A clause says what must be there to be spoken of: the header's fields, the scores among them, in a file as long as a
 -- header; entries where the header, and the length with it, is well-formed.

@@ -24,7 +24,8 @@ numbers-of file at =
       d = field32 file (at + 13);
     }
 
--- The entry of an event: entry kind 0 gives four numbers, kind 1 opinions.
+-- The entry of an event: entry kind 0 gives four numbers, kind 1 opinions. Any other kind would read as opinions, but
+-- rule 6 excludes it.
 abbrev pub entry-of : List ℕ → ℕ → Entry
 entry-of file event =
     cond (eqb (kind file event) numbers-kind) (entry.Numbers (numbers-of file (entry-at file event)))

@@ -19,7 +19,8 @@ use Rattle.opinion_sheet.specs.declared.entry.Entry.the-variants as entr
 abbrev pub numbers-trapezoid : ℕ → Numbers → Trapezoid
 numbers-trapezoid U x = record { den = U; a = x .a; b = x .b; c = x .c; d = x .d }
 
--- The four numbers of an entry: as given, or the theory's mean of the opinions of the listed experts.
+-- The four numbers of an entry: as given, or the theory's mean of the opinions of the listed experts. Somebody spoke
+-- (rule 12), with a score of at least 1 (rule 7), so that the mean's denominator is not 0.
 abbrev pub entry-trapezoid : ℕ → List ℕ → Entry → Trapezoid
 entry-trapezoid U file (entry.Numbers x) = numbers-trapezoid U x
 entry-trapezoid U file (entry.Opinions terms) = mean (opinions-among file terms (expert-count file))
@@ -36,7 +37,7 @@ event-cut U file k n event = cut (event-trapezoid U file event) k n
 abbrev pub outward : ℕ → Interval → Enclosure
 outward U x = enclosure (λ w. cut-end U w (end-of w x))
 
--- The reported cut of an event at level k of n.
+-- The reported cut of an event at level k of n. n is at least 1 (rule 13), so that no denominator is 0.
 abbrev pub cut-at : ℕ → List ℕ → ℕ → ℕ → ℕ → Enclosure
 cut-at U file event k n = outward U (event-cut U file k n event)
 

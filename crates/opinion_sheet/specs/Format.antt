@@ -1,4 +1,6 @@
--- The opinion sheet's format: where each field stands, how wide it is, and what its limits are.
+-- The opinion sheet's format: where each field stands, how wide it is, and what its limits are. A byte past the end
+-- reads as 0 (fields' `byte`), which decides nothing: a header's field counts only past rule 1, an entry's only past
+-- rule 5.
 use Prim.Native.Nat.{ℕ, _+_, _*_}
 use mathlib.Core.Bool.{Bool, _&&_}
 use mathlib.Core.List.{List}

@@ -12,7 +12,8 @@ use Rattle.opinion_sheet.specs.Format.{score, term}
 abbrev pub terms-in-order : List Term
 terms-in-order = very-low ∷ low ∷ fairly-low ∷ medium ∷ fairly-high ∷ high ∷ very-high ∷ []
 
--- The term of a code: 1 is Very Low, 7 is Very High.
+-- The term of a code: 1 is Very Low, 7 is Very High. Code 0 is no term (`opinion-of`), so that − does not stop at 0;
+-- rule 11 excludes a code above 7, so that the default is not reached.
 abbrev pub term-of : ℕ → Term
 term-of code = getD terms-in-order (code - 1) very-low
 

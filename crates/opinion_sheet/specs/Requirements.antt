@@ -1,5 +1,5 @@
--- What inner functions ask of their callers, so that every read is inside the file and every sum fits. `judge` asks
--- nothing; a well-formed file gives all of this.
+-- What inner functions ask of their callers, so that every read is inside the file and every sum fits. It stands for
+-- contracts of inner functions only: `judge` asks nothing, and a well-formed file gives all of this to `cut_at`.
 use Prim.Native.Nat.{ℕ, _+_, _*_, _≤_, _<_}
 use mathlib.Core.List.{List}
 use lib.ListN.{length, getD}
