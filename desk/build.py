@@ -10,7 +10,7 @@ import time
 from desk.child import Child, status_in_words
 from desk.screen import Stop, clear, say, show_passing
 
-# A wait or a check of so many seconds is told; one where nothing has changed takes less.
+# A wait of so many seconds is told; another run that proves nothing takes less.
 TOLD_AFTER = 1.5
 
 # How many of rt's last lines are shown where it fails.
@@ -39,7 +39,8 @@ class Desk:
 def level_printer(home, signals):
     """The path of a level printer that is up to date, for the length of a `with`: nobody builds meanwhile."""
     desk = Desk(home)
-    if shutil.which("rt") is None:
+    rt = shutil.which("rt")
+    if rt is None:
         yield as_it_is(desk, "rt is not on the path")
         return
     try:
@@ -49,7 +50,7 @@ def level_printer(home, signals):
         yield as_it_is(desk, f"{error.filename or desk.lock} cannot be written: {error.strerror}")
         return
     try:
-        prove(desk, signals, lock)
+        prove(desk, os.path.abspath(rt), signals, lock)
         yield desk.program
     finally:
         os.close(lock)
@@ -82,7 +83,7 @@ def take_lock(name, signals):
         try:
             while not is_taken(lock):
                 if not told and time.monotonic() - began > TOLD_AFTER:
-                    say("another run is proving and building the level printer; waiting for it")
+                    say("another run is building or checking the level printer; waiting for it")
                     told = True
                 signals.wait([], 0.1)
             # The folder may have been removed meanwhile, and the file with it.
@@ -103,23 +104,23 @@ def is_taken(lock):
         return False
 
 
-def prove(desk, signals, lock):
+def prove(desk, rt, signals, lock):
     first = not desk.is_built()
     if first:
         # rt goes by the stamp alone, and would not miss the program.
         with contextlib.suppress(FileNotFoundError):
             os.remove(desk.stamp)
-    report = Report(desk.home, first)
+    report = Report(desk, first)
     try:
         with open(desk.log, "wb") as log, Child(
-                signals, ["rt", "check", "levels"], kept=(lock,), cwd=desk.home,
-                stdin=subprocess.DEVNULL, stderr=subprocess.STDOUT) as rt:
-            piece = b"-"
+                signals, [rt, "check", "levels"], kept=(lock,), cwd=desk.home,
+                stdin=subprocess.DEVNULL, stderr=subprocess.STDOUT) as child:
+            piece = None
             while piece != b"":
-                piece = rt.read(0.5)
+                piece = child.read(0.5)
                 log.write(piece or b"")
                 report.take(piece or b"")
-            status = rt.status()
+            status = child.status()
     except OSError as error:
         raise Stop(3, f"'rt check levels' could not be run: {error}") from None
     finally:
@@ -136,9 +137,10 @@ def prove(desk, signals, lock):
 class Report:
     """Passes rt's own lines on as they come, and tells how far it is."""
 
-    def __init__(self, home, first):
+    def __init__(self, desk, first):
         self.began = time.monotonic()
-        self.crates = crates_of(os.path.join(home, "crates.txt"), "levels")
+        self.crates = crates_of(os.path.join(desk.home, "crates.txt"), "levels")
+        self.stamps = os.path.dirname(desk.stamp)
         self.proved = set()
         self.rest = b""
         self.last = collections.deque(maxlen=LAST_LINES)
@@ -154,16 +156,17 @@ class Report:
         *lines, self.rest = (self.rest + piece).split(b"\n")
         for line in lines:
             self.take_line(line.decode("utf-8", "replace"))
-        seconds = time.monotonic() - self.began
-        if not self.told and seconds > TOLD_AFTER:
+        # rt removes the stamp of a crate when it begins to prove it.
+        if not all(os.path.exists(os.path.join(self.stamps, name)) for name in self.crates):
             self.tell_change()
         if self.told:
-            waiting = [name for name in self.crates if name not in self.proved]
-            show_passing(f"{waiting[0] if waiting else 'levels'}, {len(self.proved)} of {len(self.crates)} crates proved, "
-                         f"{seconds:.0f} s")
+            waiting = [name for name in self.crates if name not in self.proved] or ["levels"]
+            seconds = time.monotonic() - self.began
+            show_passing(f"{waiting[0]}, {len(self.proved)} of {len(self.crates)} crates proved, {seconds:.0f} s")
 
     def tell_change(self):
-        self.tell("proving what has changed since the level printer was built")
+        if not self.told:
+            self.tell("proving what has changed since the level printer was built")
 
     def take_line(self, line):
         words = line.split()
@@ -173,8 +176,7 @@ class Report:
             return
         self.last.append(line)
         if line.startswith("rt: ") and not (line.startswith("rt: ok") and not self.told):
-            if not self.told:
-                self.tell_change()
+            self.tell_change()
             say(line[len("rt: "):])
 
 

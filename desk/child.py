@@ -6,17 +6,10 @@ import subprocess
 
 from desk.screen import Stop
 
-ENDING = (signal.SIGINT, signal.SIGTERM, signal.SIGHUP)
+ENDING = (signal.SIGINT, signal.SIGTERM, signal.SIGHUP, signal.SIGQUIT)
 
 # How long a group has to end after TERM before it gets KILL, in seconds.
 PATIENCE = 5
-
-
-def default_signals():
-    """A signal ends the command at once, as any program, where it is not noted; one that is ignored stays so."""
-    if signal.getsignal(signal.SIGINT) is signal.default_int_handler:
-        signal.signal(signal.SIGINT, signal.SIG_DFL)
-    signal.signal(signal.SIGPIPE, signal.SIG_DFL)
 
 
 class Signals:

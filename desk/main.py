@@ -1,9 +1,10 @@
 # The command's words, and what is done for each.
 import os
+import signal
 import sys
 
 from desk.build import level_printer
-from desk.child import Signals, default_signals
+from desk.child import Signals
 from desk.pair import Pair, printed
 from desk.refusal import explain
 from desk.screen import Stop, is_terminal, print_text, say
@@ -30,14 +31,15 @@ docs/REFUSALS.md has the rules.
 
 Exit status: 0 levels were printed; 1 the files or the number of levels were refused; 2 bad arguments;
 3 the level printer could not be built or run, or its text not be written; 128 + n ended by the signal n
-(INT, TERM or HUP), with all that it had started.
+(INT, TERM, HUP or QUIT), with all that it had started.
 """
 
 EXAMPLE = ("examples/fuel_supply/tree.ftf", "examples/fuel_supply/sheet.fts", "10")
 
 
 def main(home, words):
-    default_signals()
+    # A reader that has gone ends the command without a word, as it ends any program.
+    signal.signal(signal.SIGPIPE, signal.SIG_DFL)
     try:
         return run(home, words)
     except Stop as stop:

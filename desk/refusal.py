@@ -16,17 +16,18 @@ Row = collections.namedtuple("Row", "rule place aboard")
 def explain(home, pair, text):
     """The lines that go with a refusal's own line."""
     page = os.path.join(home, "docs", "REFUSALS.md")
+    read_on = f"{page} says what this means and what to do"
     if text.startswith(b"input"):
-        return [f"{too_long(pair)}.", f"see that each file is the right one; {page} says what this means and what to do"]
+        return [f"{too_long(pair)}.", f"see that each file is the right one; {read_on}"]
     matched = re.fullmatch(rb"refused ([0-9]+) at ([0-9]+)\n", text)
     if not matched:
-        return [f"{page} says what this means and what to do"]
+        return [read_on]
     number, place = int(matched.group(1)), int(matched.group(2))
     where, found, part = what_stands(pair, number, place)
     row = row_of(read_rows(page), number, part)
     rule = f": {row.rule}" if row else ""
     aboard = f"aboard: {row.aboard}; " if row else ""
-    return [f"refusal {number}{rule}. {where}{found}.", f"{aboard}{page} says what this means and what to do"]
+    return [f"refusal {number}{rule}. {where}{found}.", f"{aboard}{read_on}"]
 
 
 def read_rows(page):
@@ -52,11 +53,11 @@ def row_of(rows, number, part):
 def too_long(pair):
     """What the level printer does not let in at all."""
     faults = []
-    if len(pair.tree) > LONGEST_TREE:
-        faults.append(f"the tree file {pair.tree_name} has {len(pair.tree)} bytes; allowed: at most {LONGEST_TREE}")
-    if len(pair.sheet) > LONGEST_SHEET:
-        faults.append(f"the opinion sheet {pair.sheet_name} has {len(pair.sheet)} bytes; allowed: at most {LONGEST_SHEET}")
-    return ". ".join(faults) or "the level printer did not take its input"
+    for what, name, data, most in (("tree file", pair.tree_name, pair.tree, LONGEST_TREE),
+                                   ("opinion sheet", pair.sheet_name, pair.sheet, LONGEST_SHEET)):
+        if len(data) > most:
+            faults.append(f"the {what} {name} has {len(data)} bytes; allowed: at most {most}")
+    return "; ".join(faults) or "the level printer did not take its input"
 
 
 def what_stands(pair, number, place):
@@ -75,8 +76,8 @@ def what_stands(pair, number, place):
 
 def two_files(tree, sheet):
     events = sum(tree.kind(i) == 0 for i in range(tree.count()))
-    return (f"the tree file has the tree number {tree.two(5)} and {events} basic events, the opinion sheet "
-            f"{sheet.two(5)} and {sheet.count()}; allowed: the same in both")
+    return (f"the tree file has the tree number {tree.two(5)} and E = {events}, the opinion sheet "
+            f"{sheet.two(5)} and E = {sheet.count()}; allowed: the same in both")
 
 
 class Bytes:
@@ -214,7 +215,8 @@ class Sheet(Bytes):
             return self.expert_value("score", place - 10, self.one(place), "1 to 100"), "the score"
         event, within = divmod(place - SHEET_HEADER, ENTRY)
         if number == 6 and within == 0:
-            return f"the entry of event {event} has the kind {self.one(place)}; allowed: 0 (four numbers), 1 (opinions)", ""
+            kind = self.one(place)
+            return f"the entry of event {event} has the kind {kind}; allowed: 0 (four numbers), 1 (opinions)", ""
         if number == 10 and within == 0:
             four = ", ".join(str(self.number(place + 1 + 4 * i, 4)) for i in range(4))
             return (f"the entry of event {event} has the four numbers {four}; "
@@ -222,11 +224,11 @@ class Sheet(Bytes):
         if number == 11 and within > 0:
             return self.expert_value(f"term for event {event}", within - 1, self.one(place), "0 to 7"), ""
         if number == 12 and within == 0:
-            return (f"the entry of event {event} has the term 0 for each of the {self.experts()} experts; "
-                    f"allowed: a term from 1 to 7 for one of them at the least"), ""
+            return (f"the entry of event {event} has no term but 0 (experts: {self.experts()}); "
+                    f"allowed: a term from 1 to 7 by one expert at the least"), ""
         return "", ""
 
     def expert_value(self, what, i, value, range_of_listed):
         experts = self.experts()
-        allowed = range_of_listed if i < experts else f"0, since {experts} experts are listed"
+        allowed = range_of_listed if i < experts else f"0 after the last expert (experts: {experts})"
         return f"expert {i}'s {what} is {value}; allowed: {allowed}"

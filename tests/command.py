@@ -75,7 +75,8 @@ def become_nobody():
 
 def nobody_runs(python):
     try:
-        return subprocess.run([python, "-c", ""], preexec_fn=become_nobody, cwd="/", stderr=subprocess.DEVNULL).returncode == 0
+        tried = subprocess.run([python, "-c", ""], preexec_fn=become_nobody, cwd="/", stderr=subprocess.DEVNULL)
+        return tried.returncode == 0
     except OSError:
         return False
 
@@ -132,6 +133,14 @@ def stopped(name, ran, status, words):
     hold(f"{name}: what is wrong", re.search(words, ran.errors, re.M), ran)
 
 
+CRATES = """# crates
+theory:
+levels: printer io
+printer: theory bytes
+other: theory
+"""
+
+
 class Copy:
     """A copy of the command, with the level printer where it is built, and a path that has only some tools."""
 
@@ -149,7 +158,7 @@ class Copy:
         for part in ("nekbrod", "VERSION", "docs/REFUSALS.md"):
             os.makedirs(os.path.dirname(os.path.join(self.home, part)), exist_ok=True)
             shutil.copy(os.path.join(ROOT, part), os.path.join(self.home, part))
-        write(os.path.join(self.home, "crates.txt"), "# crates\ntheory:\nprinter: theory bytes\nother: theory\nlevels: printer io\n")
+        write(os.path.join(self.home, "crates.txt"), CRATES)
         write(self.source, read(LEVELS))
         os.chmod(self.source, 0o755)
         os.makedirs(self.tools)
@@ -159,16 +168,18 @@ class Copy:
             os.symlink(shutil.which(tool), os.path.join(self.tools, tool))
         if built:
             self.stand_in()
-            write(os.path.join(self.target, "stamp/levels"), read(self.source))
+            for name in ("theory", "printer", "levels"):
+                write(os.path.join(self.target, "stamp", name), read(self.source))
             write(self.program, read(self.source))
             os.chmod(self.program, 0o755)
 
-    def stand_in(self, before="", after="", status=0, leaves="cp \"$source\" target/stamp/levels"):
+    def stand_in(self, begin="", before="", after="", status=0, leaves="cp \"$source\" target/stamp/levels"):
         """A stand-in for rt: it notes its call, and goes by content as rt does; its program is its source."""
         write(os.path.join(self.tools, "rt"), f"""#!/bin/sh
 echo "$*" >>'{self.notes}/calls'
 mkdir '{self.notes}/busy' || echo two at once >>'{self.notes}/overlap'
 source=crates/levels/src/main.rt
+{begin}
 echo "rt: theory proved (unchanged since it was last proved)"
 if cmp -s "$source" target/stamp/levels; then
     echo "rt: levels proved (unchanged since it was last proved)"
@@ -177,6 +188,8 @@ if cmp -s "$source" target/stamp/levels; then
     exit 0
 fi
 mkdir -p target/bin target/stamp
+echo >target/stamp/theory
+echo >target/stamp/printer
 rm -f target/stamp/levels
 {before}
 echo "fn some::function: proved"
@@ -227,8 +240,9 @@ def shipped_examples():
         for expected in sorted(os.listdir(folder)):
             matched = re.fullmatch("levels-([0-9]+).txt", expected)
             if matched:
-                ran = run([os.path.join(ROOT, "nekbrod"), folder + "/tree.ftf", folder + "/sheet.fts", matched.group(1)])
-                printed(f"{name}, {matched.group(1)} levels", ran, read(os.path.join(folder, expected)))
+                n = matched.group(1)
+                ran = run([os.path.join(ROOT, "nekbrod"), folder + "/tree.ftf", folder + "/sheet.fts", n])
+                printed(f"{name}, {n} levels", ran, read(os.path.join(folder, expected)))
                 hold(f"{name}: no errors", ran.errors == "", ran)
 
 
@@ -257,7 +271,8 @@ def calls(work, copy):
     for words in (["--help"], ["-h"], ["levels", "--help"]):
         ran = copy.run(*words)
         hold(f"{words}: status", ran.status == 0, ran)
-        for text in (b"nekbrod TREE SHEET LEVELS", b"nekbrod levels TREE SHEET LEVELS", b"--version", b"Exit status", b"128 + n"):
+        for text in (b"nekbrod TREE SHEET LEVELS", b"nekbrod levels TREE SHEET LEVELS", b"--version", b"Exit status",
+                     b"128 + n"):
             hold(f"{words}: {text}", text in ran.out, ran)
         hold(f"{words}: no errors", ran.errors == "", ran)
     ran = copy.run("--version")
@@ -297,8 +312,8 @@ def sheet(entries, scores=(), number=7, count=None, experts=None, version=1, let
     """An opinion sheet: entries are four numbers, or a kind and sixteen bytes."""
     count = len(entries) if count is None else count
     experts = len(scores) if experts is None else experts
-    head = letters + two(version) + two(number) + two(count) + bytes([experts]) + bytes(scores) + bytes(16 - len(scores) - len(after)) + after
-    return head + b"".join(entries)
+    all_scores = bytes(scores) + bytes(16 - len(scores) - len(after)) + after
+    return letters + two(version) + two(number) + two(count) + bytes([experts]) + all_scores + b"".join(entries)
 
 
 def four(*numbers):
@@ -314,16 +329,18 @@ ONE = tree([EVENT], [])
 TWO = tree([EVENT, (0, 1, 0), (2, 0, 2)], [0, 1])
 GOOD = sheet([four(0, 1, 1, 2)])
 
-# Name, tree, sheet, levels, the printer's line, the row of the page's table (number, which), the file, what is said of it.
+# Name, tree, sheet, levels, the printer's line, which of its number's rows in the page's table, the file, what is said.
 REFUSED = [
     ("a tree of 8 bytes", bytes(8), GOOD, 2, "refused 1 at 8", 0, "tree", "the file has 8 bytes; allowed: at least 9"),
     ("an empty sheet", ONE, b"", 2, "refused 1 at 0", 0, "sheet", "the file has 0 bytes; allowed: at least 26"),
     ("a sheet's letters in a tree", tree([EVENT], [], letters=b"FTS"), GOOD, 2, "refused 2 at 0", 0, "tree",
      "the letters are 'FTS'; allowed: 'FTF'"),
-    ("a zero among the sheet's letters", ONE, sheet([four(0, 0, 0, 0)], letters=b"F\0S"), 2, "refused 2 at 0", 0, "sheet",
-     "the letters are 'F\\x00S'; allowed: 'FTS'"),
-    ("a tree's version", tree([EVENT], [], version=257), GOOD, 2, "refused 3 at 3", 0, "tree", "the version is 257; allowed: 1"),
-    ("a sheet's version", ONE, sheet([four(0, 0, 0, 0)], version=2), 2, "refused 3 at 3", 0, "sheet", "the version is 2; allowed: 1"),
+    ("a zero among the sheet's letters", ONE, sheet([four(0, 0, 0, 0)], letters=b"F\0S"), 2, "refused 2 at 0", 0,
+     "sheet", "the letters are 'F\\x00S'; allowed: 'FTS'"),
+    ("a tree's version", tree([EVENT], [], version=257), GOOD, 2, "refused 3 at 3", 0, "tree",
+     "the version is 257; allowed: 1"),
+    ("a sheet's version", ONE, sheet([four(0, 0, 0, 0)], version=2), 2, "refused 3 at 3", 0, "sheet",
+     "the version is 2; allowed: 1"),
     ("no node", tree([], []), GOOD, 2, "refused 4 at 7", 0, "tree", "N, the number of nodes, is 0; allowed: 1 to 1024"),
     ("1,025 nodes", tree([EVENT], [], count=1025), GOOD, 2, "refused 4 at 7", 0, "tree",
      "N, the number of nodes, is 1025; allowed: 1 to 1024"),
@@ -353,39 +370,42 @@ REFUSED = [
      "all b together are 0; allowed: N - 1 = 1"),
     ("a score of 0", TWO, sheet([terms(1), terms(1)], scores=[0]), 2, "refused 7 at 10", 2, "sheet",
      "expert 0's score is 0; allowed: 1 to 100"),
-    ("a score of 101 at a place where the tree has a record", TWO, sheet([terms(1), terms(1)], scores=[1, 2, 3, 4, 101]), 2,
-     "refused 7 at 14", 2, "sheet", "expert 4's score is 101; allowed: 1 to 100"),
+    ("a score of 101 at a place where the tree has a record", TWO,
+     sheet([terms(1), terms(1)], scores=[1, 2, 3, 4, 101]), 2, "refused 7 at 14", 2, "sheet",
+     "expert 4's score is 101; allowed: 1 to 100"),
     ("a score after the last expert", ONE, sheet([four(0, 0, 0, 0)], after=b"\1"), 2, "refused 7 at 25", 2, "sheet",
-     "expert 15's score is 1; allowed: 0, since 0 experts are listed"),
+     "expert 15's score is 1; allowed: 0 after the last expert (experts: 0)"),
     ("a gate linked to itself", tree([EVENT, (1, 0, 1)], [1]), GOOD, 2, "refused 8 at 19", 0, "tree",
      "link 0, input 0 of gate 1 (AND), names node 1; allowed: a node below 1"),
-    ("a second input above its gate", tree([EVENT, (0, 1, 0), (1, 0, 2), (2, 2, 1)], [0, 3, 2]), GOOD, 2, "refused 8 at 31", 0, "tree",
-     "link 1, input 1 of gate 2 (AND), names node 3; allowed: a node below 2"),
+    ("a second input above its gate", tree([EVENT, (0, 1, 0), (1, 0, 2), (2, 2, 1)], [0, 3, 2]), GOOD, 2,
+     "refused 8 at 31", 0, "tree", "link 1, input 1 of gate 2 (AND), names node 3; allowed: a node below 2"),
     ("two gates over one event", tree([EVENT, (1, 0, 1), (2, 1, 1)], [0, 0]), GOOD, 2, "refused 9 at 26", 0, "tree",
      "link 1, input 0 of gate 2 (OR), names node 0; allowed: a node that no link before it names, "
      "and link 0, input 0 of gate 1 (AND) names this one"),
     ("four numbers out of order", ONE, sheet([four(1, 0, 0, 0)]), 2, "refused 10 at 26", 0, "sheet",
-     "the entry of event 0 has the four numbers 1, 0, 0, 0; allowed: each at least the one before it, and at most 1000000000"),
+     "the entry of event 0 has the four numbers 1, 0, 0, 0; "
+     "allowed: each at least the one before it, and at most 1000000000"),
     ("a number above 1", TWO, sheet([four(0, 0, 0, 0), four(0, 0, 0, 1000000001)]), 2, "refused 10 at 43", 0, "sheet",
      "the entry of event 1 has the four numbers 0, 0, 0, 1000000001; "
      "allowed: each at least the one before it, and at most 1000000000"),
     ("a term of 8", ONE, sheet([terms(8)], scores=[1]), 2, "refused 11 at 27", 0, "sheet",
      "expert 0's term for event 0 is 8; allowed: 0 to 7"),
-    ("a term after the last expert", TWO, sheet([terms(1, 1), terms(1, last=1)], scores=[1, 1]), 2, "refused 11 at 59", 0, "sheet",
-     "expert 15's term for event 1 is 1; allowed: 0, since 2 experts are listed"),
+    ("a term after the last expert", TWO, sheet([terms(1, 1), terms(1, last=1)], scores=[1, 1]), 2,
+     "refused 11 at 59", 0, "sheet",
+     "expert 15's term for event 1 is 1; allowed: 0 after the last expert (experts: 2)"),
     ("nobody spoke", ONE, sheet([terms()], scores=[1, 1]), 2, "refused 12 at 26", 0, "sheet",
-     "the entry of event 0 has the term 0 for each of the 2 experts; allowed: a term from 1 to 7 for one of them at the least"),
+     "the entry of event 0 has no term but 0 (experts: 2); allowed: a term from 1 to 7 by one expert at the least"),
 ]
 
 QUESTIONED = [
     *((f"{n} levels", ONE, GOOD, n, "refused 13 at 0", f"The number of levels is {n}; allowed: 1 to 1000")
       for n in (0, 1001, 65535)),
     ("another tree's number", ONE, sheet([four(0, 0, 0, 0)], number=8), 2, "refused 24 at 0",
-     "The two files do not belong together: the tree file has the tree number 7 and 1 basic events, the opinion sheet 8 and 1; "
-     "allowed: the same in both"),
+     "The two files do not belong together: the tree file has the tree number 7 and E = 1, "
+     "the opinion sheet 8 and E = 1; allowed: the same in both"),
     ("another number of events", TWO, GOOD, 2, "refused 24 at 0",
-     "The two files do not belong together: the tree file has the tree number 7 and 2 basic events, the opinion sheet 7 and 1; "
-     "allowed: the same in both"),
+     "The two files do not belong together: the tree file has the tree number 7 and E = 2, "
+     "the opinion sheet 7 and E = 1; allowed: the same in both"),
 ]
 
 
@@ -395,7 +415,8 @@ def table_rows():
     for line in read(os.path.join(ROOT, "docs/REFUSALS.md")).decode().splitlines():
         matched = re.match(r"\| ([0-9]+) \|", line)
         if matched:
-            rows.setdefault(int(matched.group(1)), []).append([cell.strip() for cell in line.replace("`", "").split("|")[2:-1]])
+            cells = [cell.strip() for cell in line.replace("`", "").split("|")[2:-1]]
+            rows.setdefault(int(matched.group(1)), []).append(cells)
     return rows
 
 
@@ -439,7 +460,7 @@ def refusals(work, copy):
     refused("a sheet of 17,435 bytes", ask(ONE, bytes(17435), 2), "input",
             f"the opinion sheet {names[1]} has 17435 bytes; allowed: at most 17434", look)
     refused("both files too long", ask(bytes(7176), bytes(17435), 2), "input",
-            f"the tree file {names[0]} has 7176 bytes; allowed: at most 7175. "
+            f"the tree file {names[0]} has 7176 bytes; allowed: at most 7175; "
             f"the opinion sheet {names[1]} has 17435 bytes; allowed: at most 17434", look)
     the_page(copy, ask)
 
@@ -460,7 +481,8 @@ def the_page(copy, ask):
 
 def bad_arguments(work, copy):
     for name, words in (("one argument", [ROAD[0]]), ("two arguments", ROAD), ("four arguments", [*ROAD, "2", "2"]),
-                        ("an empty argument", [""]), ("levels alone", ["levels"]), ("levels and one file", ["levels", ROAD[0]]),
+                        ("an empty argument", [""]), ("levels alone", ["levels"]),
+                        ("levels and one file", ["levels", ROAD[0]]),
                         ("levels and four", ["levels", *ROAD, "2", "2"]), ("an unknown word", ["--wat"]),
                         ("version and more", ["--version", "2"])):
         stopped(name, copy.run(*words), 2, "nekbrod --help")
@@ -477,7 +499,8 @@ def bad_arguments(work, copy):
     stopped("an empty name", copy.run("", ROAD[1], "2"), 2, "there is no tree file")
     stopped("a folder", copy.run(work, ROAD[1], "2"), 2, "is not a file")
     long = write(os.path.join(work, "long"), bytes(65536))
-    stopped("a sheet of 65,536 bytes", copy.run(ROAD[0], long, "2"), 2, "the opinion sheet .* is longer than 65535 bytes")
+    stopped("a sheet of 65,536 bytes", copy.run(ROAD[0], long, "2"), 2,
+            "the opinion sheet .* is longer than 65535 bytes")
     stopped("a tree of 65,536 bytes", copy.run(long, ROAD[1], "2"), 2, "the tree file .* is longer than 65535 bytes")
     hold("bad arguments: rt is not asked", copy.calls() == [])
     shut = write(os.path.join(work, "shut"), read(ROAD[0]))
@@ -514,6 +537,9 @@ def building(copy):
     os.utime(copy.source)
     ran = copy.run(*ROAD, "2")
     hold("a new date alone: nothing proved", ran.errors == "", ran)
+    copy.stand_in(begin="sleep 2")
+    ran = copy.run(*ROAD, "2")
+    hold("a slow rt where nothing changed: nothing said", ran.errors == "" and ran.status == 0, ran)
     without_rt(copy)
 
 
@@ -531,7 +557,7 @@ def without_rt(copy):
 def failing_builds(copy):
     for name, words in (
             ("a proof that fails", {"before": "echo a line that says why", "status": 1}),
-            ("a stored case that fails", {"after": "cp \"$source\" target/bin/levels; rm -f target/stamp/levels", "status": 1}),
+            ("a stored case that fails", {"after": 'cp "$source" target/bin/levels', "status": 1}),
             ("a toolchain that fails", {"before": "echo 'crates/x.rt:3:4: error' >&2", "status": 2})):
         copy.empty()
         copy.stand_in(**words)
@@ -540,11 +566,13 @@ def failing_builds(copy):
             name_here = f"{name}, {turn}"
             hold(f"{name_here}: status", ran.status == 3, ran)
             hold(f"{name_here}: nothing printed", ran.out == b"", ran)
-            hold(f"{name_here}: said", f"'rt check levels' failed: it ended with status {words['status']}" in ran.errors, ran)
+            said = f"'rt check levels' failed: it ended with status {words['status']}. Its last lines:"
+            hold(f"{name_here}: said", said in ran.errors, ran)
             hold(f"{name_here}: rt's last lines", "\nnekbrod:   fn some::function: proved\n" in ran.errors, ran)
             hold(f"{name_here}: the log's name", ran.lines[-1].endswith("target/nekbrod.log has all that rt said"), ran)
             log = read(copy.target + "/nekbrod.log").decode()
-            hold(f"{name_here}: the log", log.startswith("rt: theory") and log.endswith("rt: levels proved (2 s)\n"), ran)
+            whole = log.startswith("rt: theory") and log.endswith("rt: levels proved (2 s)\n")
+            hold(f"{name_here}: the log", whole, ran)
             if "before" in words:
                 why = words["before"].split("echo ")[1].split(" >&2")[0].strip("'")
                 hold(f"{name_here}: why", f"nekbrod:   {why}\n" in ran.errors and why in log, ran)
@@ -579,7 +607,8 @@ def unwritable(copy):
     ran = copy.run(*ROAD, "2")
     printed("target/ can't be written", ran, ROAD_LEVELS)
     hold("target/ can't be written: one line", len(ran.lines) == 1, ran)
-    hold("target/ can't be written: said", re.search("target/nekbrod.lock cannot be written: .*run as it is", ran.errors), ran)
+    said = re.search("target/nekbrod.lock cannot be written: .*run as it is", ran.errors)
+    hold("target/ can't be written: said", said, ran)
     os.rmdir(copy.target + "/nekbrod.lock")
     write(copy.target + "/nekbrod.lock", "")
     if not CAN_BE_SHUT_OUT:
@@ -595,12 +624,14 @@ def unwritable(copy):
         ran = copy.run(*names, "2", cwd="/", **SHUT_OUT)
         os.chmod(copy.target + folder, 0o755)
         printed(f"target{folder} without the right to write", ran, ROAD_LEVELS)
-        hold(f"target{folder}: said", re.search(f"target{folder} cannot be written: Permission denied; .*run as it is", ran.errors), ran)
+        said = re.search(f"target{folder} cannot be written: Permission denied; .*run as it is", ran.errors)
+        hold(f"target{folder}: said", said, ran)
     os.rename(copy.target, copy.target + ".kept")
     os.chmod(copy.home, 0o555)
     ran = copy.run(*names, "2", cwd="/", **SHUT_OUT)
     os.chmod(copy.home, 0o755)
-    stopped("a first run in a folder without the right to write", ran, 3, "not built, and .*target cannot be written: Permission denied")
+    stopped("a first run in a folder without the right to write", ran, 3,
+            "not built, and .*target cannot be written: Permission denied")
     os.rename(copy.target + ".kept", copy.target)
 
 
@@ -642,7 +673,7 @@ def interrupted(name, copy, process, number):
 
 
 def signals(copy):
-    for number in (signal.SIGINT, signal.SIGTERM, signal.SIGHUP):
+    for number in (signal.SIGINT, signal.SIGTERM, signal.SIGHUP, signal.SIGQUIT):
         long_build(copy)
         took = interrupted(signal.Signals(number).name, copy, copy.start(*ROAD, "2"), number)
         hold(f"{signal.Signals(number).name}: at once", took < 4)
@@ -678,7 +709,8 @@ def two_at_once(copy):
     printed("two at once: the one", one, ROAD_LEVELS)
     printed("two at once: the other", other, ROAD_LEVELS)
     hold("two at once: the one builds", "proving and building" in one.errors and "another run" not in one.errors, one)
-    hold("two at once: the other says that it waits", other.errors.startswith("nekbrod: another run is proving and building"), other)
+    waits = other.errors.startswith("nekbrod: another run is building or checking")
+    hold("two at once: the other says that it waits", waits, other)
     hold("two at once: the other does not build", "printer proved" not in other.errors, other)
     hold("two at once: rt alone at a time", copy.calls() == ["check levels"] * 2 and copy.note("overlap") == "", other)
     copy.empty()
@@ -732,8 +764,9 @@ def terminals(copy):
     copy.stand_in(before="sleep 1.2", after="sleep 1.2")
     ran = on_terminal(copy, *ROAD, "2")
     printed("on a terminal", ran, ROAD_LEVELS)
-    hold("progress: the first crate", re.search(r"\r\x1b\[Knekbrod: printer, 1 of 3 crates proved, [01] s", ran.errors), ran)
-    hold("progress: the next crate", re.search(r"\r\x1b\[Knekbrod: levels, 2 of 3 crates proved, [12] s", ran.errors), ran)
+    for name, words in (("the first crate", "printer, 1 of 3"), ("the next crate", "levels, 2 of 3")):
+        shown = re.search(rf"\r\x1b\[Knekbrod: {words} crates proved, [0-9]+ s\r", ran.errors)
+        hold(f"progress: {name}", shown, ran)
     hold("progress: cleared before a line", re.search(r"\r\x1b\[Knekbrod: printer proved \(1 s\)", ran.errors), ran)
     hold("progress: cleared at the end", ran.errors.rsplit("nekbrod: ", 1)[1].endswith("\r\x1b[K")
          or ran.errors.endswith("\n"), ran)
@@ -761,7 +794,8 @@ def last_of(ran):
 def broken_programs(copy):
     copy.stand_in()
     stopped("a program that prints nothing", last_of(other_program(copy, ":")), 3, "neither levels nor a refusal")
-    stopped("a program that prints something else", last_of(other_program(copy, "echo hello")), 3, "neither levels nor a refusal")
+    stopped("a program that prints something else", last_of(other_program(copy, "echo hello")), 3,
+            "neither levels nor a refusal")
     stopped("a program that fails", last_of(other_program(copy, "echo tree; exit 7")), 3, "ended with status 7")
     stopped("a program that is killed", last_of(other_program(copy, "kill -9 $$")), 3, "ended by signal 9")
     copy.change("\0\0not a program")
@@ -771,12 +805,13 @@ def broken_programs(copy):
         hold(f"a program that says '{line}'", ran.status == 1 and ran.out == line.encode() + b"\n"
              and "docs/REFUSALS.md" in ran.lines[-1] and "Traceback" not in ran.errors, ran)
     ran = other_program(copy, "cat >'" + copy.notes + "/input'; echo tree of no consequence")
-    hold("the printer's input", read(copy.notes + "/input") == two(2) + two(len(read(ROAD[0]))) + two(len(read(ROAD[1])))
-         + read(ROAD[0]) + read(ROAD[1]), ran)
+    files = [read(name) for name in ROAD]
+    expected = two(2) + two(len(files[0])) + two(len(files[1])) + files[0] + files[1]
+    hold("the printer's input", read(copy.notes + "/input") == expected, ran)
     long = "tree " + "x" * 300000
     write(copy.notes + "/long", long)
     ran = other_program(copy, "cat '" + copy.notes + "/long'")
-    hold("a long text without a line feed, and input that is not read", ran.out == long.encode() and ran.status == 0, ran)
+    printed("a long text without a line feed, and input that is not read", ran, long.encode())
     copy.change(read(LEVELS))
     copy.run(*ROAD, "2")
 
