@@ -1,0 +1,204 @@
+# The level printer, proved and built where its sources changed. What has changed is rt's to say: it goes by content.
+import collections
+import contextlib
+import fcntl
+import os
+import shutil
+import subprocess
+import time
+
+from desk.child import Child, status_in_words
+from desk.screen import Stop, clear, say, show_passing
+
+# A wait of so many seconds is told; another run that proves nothing takes less.
+TOLD_AFTER = 1.5
+
+# How many of rt's last lines are shown where it fails.
+LAST_LINES = 12
+
+UNCHANGED = "(unchanged since it was last proved)"
+
+
+class Desk:
+    """The places that building needs."""
+
+    def __init__(self, home):
+        self.home = home
+        self.target = os.path.join(home, "target")
+        self.program = os.path.join(self.target, "bin", "levels")
+        # rt leaves it once the program is proved, built, and right on its stored case.
+        self.stamp = os.path.join(self.target, "stamp", "levels")
+        self.lock = os.path.join(self.target, "nekbrod.lock")
+        self.log = os.path.join(self.target, "nekbrod.log")
+
+    def is_built(self):
+        return os.path.isfile(self.program) and os.access(self.program, os.X_OK)
+
+
+@contextlib.contextmanager
+def level_printer(home, signals):
+    """The path of a level printer that is up to date, for the length of a `with`: nobody builds meanwhile."""
+    desk = Desk(home)
+    rt = shutil.which("rt")
+    if rt is None:
+        yield as_it_is(desk, "rt is not on the path")
+        return
+    try:
+        check_writable(desk)
+        lock = take_lock(desk.lock, signals)
+    except OSError as error:
+        yield as_it_is(desk, f"{error.filename or desk.lock} cannot be written: {error.strerror}")
+        return
+    try:
+        prove(desk, os.path.abspath(rt), signals, lock)
+        yield desk.program
+    finally:
+        os.close(lock)
+
+
+def as_it_is(desk, reason):
+    """The program that is there, with a line that nobody asked whether it is still that of its sources."""
+    if not desk.is_built():
+        raise Stop(3, f"the level printer is not built, and {reason}")
+    if not os.path.exists(desk.stamp):
+        raise Stop(3, f"the level printer was not seen to be right when it was built, and {reason}")
+    say(f"{reason}; the level printer is run as it is, and may be older than its sources")
+    return desk.program
+
+
+def check_writable(desk):
+    """rt writes in all these folders."""
+    os.makedirs(desk.target, exist_ok=True)
+    for name in ("", "bin", "log", "obj", "rlib", "stamp"):
+        folder = os.path.join(desk.target, name).rstrip("/")
+        if os.path.exists(folder) and not os.access(folder, os.W_OK | os.X_OK):
+            raise PermissionError(13, "Permission denied", folder)
+
+
+def take_lock(name, signals):
+    """A lock that lasts as long as this run, or what it started, lives."""
+    began, told = time.monotonic(), False
+    while True:
+        lock = os.open(name, os.O_RDWR | os.O_CREAT, 0o666)
+        try:
+            while not is_taken(lock):
+                if not told and time.monotonic() - began > TOLD_AFTER:
+                    say("another run is building or checking the level printer; waiting for it")
+                    told = True
+                signals.wait([], 0.1)
+            # The folder may have been removed meanwhile, and the file with it.
+            if os.path.exists(name) and os.path.samestat(os.fstat(lock), os.stat(name)):
+                return lock
+        except BaseException:
+            os.close(lock)
+            raise
+        os.close(lock)
+        os.makedirs(os.path.dirname(name), exist_ok=True)
+
+
+def is_taken(lock):
+    try:
+        fcntl.flock(lock, fcntl.LOCK_EX | fcntl.LOCK_NB)
+        return True
+    except BlockingIOError:
+        return False
+
+
+def prove(desk, rt, signals, lock):
+    first = not desk.is_built()
+    if first:
+        # rt goes by the stamp alone, and would not miss the program.
+        with contextlib.suppress(FileNotFoundError):
+            os.remove(desk.stamp)
+    report = Report(desk, first)
+    try:
+        with open(desk.log, "wb") as log, Child(
+                signals, [rt, "check", "levels"], kept=(lock,), cwd=desk.home,
+                stdin=subprocess.DEVNULL, stderr=subprocess.STDOUT) as child:
+            piece = None
+            while piece != b"":
+                piece = child.read(0.5)
+                log.write(piece or b"")
+                report.take(piece or b"")
+            status = child.status()
+    except OSError as error:
+        raise Stop(3, f"'rt check levels' could not be run: {error}") from None
+    finally:
+        clear()
+    if status != 0:
+        say(f"'rt check levels' failed: it {status_in_words(status)}. Its last lines:")
+        for line in report.last:
+            say(f"  {line}")
+        raise Stop(3, f"no level is printed; {desk.log} has all that rt said")
+    if not desk.is_built():
+        raise Stop(3, f"'rt check levels' left no program at {desk.program}; {desk.log} has all that rt said")
+
+
+class Report:
+    """Passes rt's own lines on as they come, and tells how far it is."""
+
+    def __init__(self, desk, first):
+        self.began = time.monotonic()
+        self.crates = crates_of(os.path.join(desk.home, "crates.txt"), "levels")
+        self.stamps = os.path.dirname(desk.stamp)
+        self.proved = set()
+        self.rest = b""
+        self.last = collections.deque(maxlen=LAST_LINES)
+        self.told = False
+        if first:
+            self.tell("proving and building the level printer; the first time this takes minutes")
+
+    def tell(self, text):
+        self.told = True
+        say(text)
+
+    def take(self, piece):
+        *lines, self.rest = (self.rest + piece).split(b"\n")
+        for line in lines:
+            self.take_line(line.decode("utf-8", "replace"))
+        # rt removes the stamp of a crate when it begins to prove it.
+        if not all(os.path.exists(os.path.join(self.stamps, name)) for name in self.crates):
+            self.tell_change()
+        if self.told:
+            waiting = [name for name in self.crates if name not in self.proved] or ["levels"]
+            seconds = time.monotonic() - self.began
+            show_passing(f"{waiting[0]}, {len(self.proved)} of {len(self.crates)} crates proved, {seconds:.0f} s")
+
+    def tell_change(self):
+        if not self.told:
+            self.tell("proving what has changed since the level printer was built")
+
+    def take_line(self, line):
+        words = line.split()
+        if words[:1] == ["rt:"] and words[2:3] == ["proved"]:
+            self.proved.add(words[1])
+        if line.endswith(UNCHANGED) or ": its dependency " in line:
+            return
+        self.last.append(line)
+        if line.startswith("rt: ") and not (line.startswith("rt: ok") and not self.told):
+            self.tell_change()
+            say(line[len("rt: "):])
+
+
+def crates_of(name, program):
+    """The crates that a program rests on, and itself, each after those that it rests on; in the order that rt takes."""
+    rests_on = {}
+    with contextlib.suppress(OSError), open(name, encoding="utf-8") as file:
+        for line in file:
+            crate, colon, others = line.split("#")[0].partition(":")
+            if colon:
+                rests_on[crate.strip()] = others.split()
+
+    def height(crate):
+        return 1 + max((height(other) for other in rests_on[crate] if other in rests_on), default=0)
+
+    found = []
+
+    def visit(crate):
+        if crate in rests_on and crate not in found:
+            for other in rests_on[crate]:
+                visit(other)
+            found.append(crate)
+
+    visit(program)
+    return sorted(found, key=height)

@@ -1,0 +1,871 @@
+# The command at the root: every shipped example to the byte, its refusals in words, bad arguments, building, signals.
+# All but the shipped examples run in a copy, where a stand-in for rt is on the path.
+import os
+import pty
+import re
+import shutil
+import signal
+import subprocess
+import sys
+import tempfile
+import time
+
+ROOT = os.path.dirname(os.path.dirname(os.path.realpath(__file__)))
+LEVELS = os.path.join(ROOT, "target/bin/levels")
+ROAD = [os.path.join(ROOT, "examples/road_trip", name) for name in ("tree.ftf", "sheet.fts")]
+FUEL = [os.path.join(ROOT, "examples/fuel_supply", name) for name in ("tree.ftf", "sheet.fts")]
+NOBODY = 65534
+# A run that takes longer than this hangs.
+LONGEST = 30
+
+passed = failed = 0
+skipped = []
+
+
+def read(name):
+    with open(name, "rb") as file:
+        return file.read()
+
+
+def write(name, data):
+    os.makedirs(os.path.dirname(name), exist_ok=True)
+    with open(name, "wb") as file:
+        file.write(data if isinstance(data, bytes) else data.encode())
+    return name
+
+
+ROAD_LEVELS = read(os.path.join(ROOT, "examples/road_trip/levels-2.txt"))
+FUEL_LEVELS = read(os.path.join(ROOT, "examples/fuel_supply/levels-10.txt"))
+
+
+class Run:
+    """A run that has ended: its status, its output, its errors as text."""
+
+    def __init__(self, status, out, errors):
+        self.status, self.out, self.errors = status, out, errors.decode("utf-8", "surrogateescape")
+        self.lines = self.errors.splitlines()
+
+
+def hold(name, right, run=None):
+    """Counts a check, and shows the run where the check fails."""
+    global passed, failed
+    if right:
+        passed += 1
+        return
+    failed += 1
+    print(f"FAILED: {name}" + (f"; status {run.status}" if run else ""))
+    if run:
+        for line in run.out.decode("latin-1").splitlines()[:5]:
+            print(f"  out: {line}")
+        for line in run.lines[:8]:
+            print(f"  err: {line}")
+
+
+def usual_signals():
+    for number in (signal.SIGINT, signal.SIGTERM, signal.SIGHUP):
+        signal.signal(number, signal.SIG_DFL)
+
+
+def become_nobody():
+    usual_signals()
+    os.setgroups([])
+    os.setgid(NOBODY)
+    os.setuid(NOBODY)
+
+
+def nobody_runs(python):
+    try:
+        tried = subprocess.run([python, "-c", ""], preexec_fn=become_nobody, cwd="/", stderr=subprocess.DEVNULL)
+        return tried.returncode == 0
+    except OSError:
+        return False
+
+
+# Root may read and write everything, so that as root some checks are nobody's, where nobody has a python3 to run.
+IS_ROOT = os.getuid() == 0
+PYTHONS = [os.path.realpath(sys.executable), "/usr/bin/python3"]
+FOR_NOBODY = [python for python in PYTHONS if IS_ROOT and nobody_runs(python)]
+PYTHON = (FOR_NOBODY or PYTHONS)[0]
+CAN_BE_SHUT_OUT = not IS_ROOT or bool(FOR_NOBODY)
+SHUT_OUT = {"preexec_fn": become_nobody} if IS_ROOT else {}
+
+
+def start(words, **more):
+    more = {"stdout": subprocess.PIPE, "stderr": subprocess.PIPE, "stdin": subprocess.DEVNULL,
+            "preexec_fn": usual_signals, **more}
+    return subprocess.Popen(words, **more)
+
+
+def ended(process):
+    try:
+        out, errors = process.communicate(timeout=LONGEST)
+    except subprocess.TimeoutExpired:
+        process.kill()
+        out, errors = process.communicate()
+        errors = (errors or b"") + b"\nit did not end\n"
+    return Run(process.returncode, out or b"", errors or b"")
+
+
+def run(words, **more):
+    return ended(start(words, **more))
+
+
+def until(condition):
+    """Waits for a condition, and answers whether it came."""
+    began = time.monotonic()
+    while not condition():
+        if time.monotonic() - began > LONGEST:
+            return False
+        time.sleep(0.02)
+    return True
+
+
+def printed(name, ran, text):
+    hold(f"{name}: status", ran.status == 0, ran)
+    hold(f"{name}: levels", ran.out == text, ran)
+
+
+def stopped(name, ran, status, words):
+    """Nothing printed, and one line of errors that has the words."""
+    hold(f"{name}: status", ran.status == status, ran)
+    hold(f"{name}: nothing printed", ran.out == b"", ran)
+    hold(f"{name}: one line of errors", len(ran.lines) == 1, ran)
+    hold(f"{name}: what is wrong", re.search(words, ran.errors, re.M), ran)
+
+
+CRATES = """# crates
+theory:
+levels: printer io
+printer: theory bytes
+other: theory
+"""
+
+
+class Copy:
+    """A copy of the command, with the level printer where it is built, and a path that has only some tools."""
+
+    def __init__(self, work, name, built=True):
+        self.home = os.path.join(work, name)
+        self.tools = os.path.join(work, name + " tools")
+        self.notes = os.path.join(work, name + " notes")
+        self.command = os.path.join(self.home, "nekbrod")
+        self.target = os.path.join(self.home, "target")
+        self.program = os.path.join(self.target, "bin/levels")
+        self.source = os.path.join(self.home, "crates/levels/src/main.rt")
+        for part in ("desk", "examples/fuel_supply"):
+            shutil.copytree(os.path.join(ROOT, part), os.path.join(self.home, part),
+                            ignore=shutil.ignore_patterns("__pycache__"))
+        for part in ("nekbrod", "VERSION", "docs/REFUSALS.md"):
+            os.makedirs(os.path.dirname(os.path.join(self.home, part)), exist_ok=True)
+            shutil.copy(os.path.join(ROOT, part), os.path.join(self.home, part))
+        write(os.path.join(self.home, "crates.txt"), CRATES)
+        write(self.source, read(LEVELS))
+        os.chmod(self.source, 0o755)
+        os.makedirs(self.tools)
+        os.makedirs(self.notes)
+        os.symlink(PYTHON, os.path.join(self.tools, "python3"))
+        for tool in ("env", "sh", "cp", "mkdir", "rmdir", "rm", "cmp", "sleep", "cat"):
+            os.symlink(shutil.which(tool), os.path.join(self.tools, tool))
+        if built:
+            self.stand_in()
+            for name in ("theory", "printer", "levels"):
+                write(os.path.join(self.target, "stamp", name), read(self.source))
+            write(self.program, read(self.source))
+            os.chmod(self.program, 0o755)
+
+    def stand_in(self, begin="", before="", after="", status=0, leaves="cp \"$source\" target/stamp/levels"):
+        """A stand-in for rt: it notes its call, and goes by content as rt does; its program is its source."""
+        write(os.path.join(self.tools, "rt"), f"""#!/bin/sh
+echo "$*" >>'{self.notes}/calls'
+mkdir '{self.notes}/busy' || echo two at once >>'{self.notes}/overlap'
+source=crates/levels/src/main.rt
+{begin}
+echo "rt: theory proved (unchanged since it was last proved)"
+if cmp -s "$source" target/stamp/levels; then
+    echo "rt: levels proved (unchanged since it was last proved)"
+    echo "rt: ok, 3 crates proved"
+    rmdir '{self.notes}/busy'
+    exit 0
+fi
+mkdir -p target/bin target/stamp
+echo >target/stamp/theory
+echo >target/stamp/printer
+rm -f target/stamp/levels
+{before}
+echo "fn some::function: proved"
+echo "rt: printer proved (1 s)"
+if [ {status} -eq 0 ]; then cp "$source" target/bin/levels; {leaves}; fi
+{after}
+echo "rt: levels proved (2 s)"
+rmdir '{self.notes}/busy'
+exit {status}
+""")
+        os.chmod(os.path.join(self.tools, "rt"), 0o755)
+        shutil.rmtree(self.notes)
+        os.makedirs(self.notes)
+
+    def without_rt(self):
+        os.remove(os.path.join(self.tools, "rt"))
+
+    def empty(self):
+        shutil.rmtree(self.target, ignore_errors=True)
+
+    def note(self, name):
+        try:
+            return read(os.path.join(self.notes, name)).decode()
+        except FileNotFoundError:
+            return ""
+
+    def calls(self):
+        return self.note("calls").splitlines()
+
+    def change(self, text):
+        """Other bytes in the source, with an old date."""
+        write(self.source, text)
+        os.chmod(self.source, 0o755)
+        os.utime(self.source, (946684800, 946684800))
+
+    def start(self, *words, **more):
+        return start([self.command, *words], env={"PATH": self.tools, "LC_ALL": "C"}, **more)
+
+    def run(self, *words, **more):
+        return ended(self.start(*words, **more))
+
+
+def shipped_examples():
+    """By the command itself, and by the real rt, to which nothing has changed."""
+    examples = os.path.join(ROOT, "examples")
+    for name in sorted(os.listdir(examples)):
+        folder = os.path.join(examples, name)
+        for expected in sorted(os.listdir(folder)):
+            matched = re.fullmatch("levels-([0-9]+).txt", expected)
+            if matched:
+                n = matched.group(1)
+                ran = run([os.path.join(ROOT, "nekbrod"), folder + "/tree.ftf", folder + "/sheet.fts", n])
+                printed(f"{name}, {n} levels", ran, read(os.path.join(folder, expected)))
+                hold(f"{name}: no errors", ran.errors == "", ran)
+
+
+def calls(work, copy):
+    ran = copy.run()
+    printed("no arguments", ran, FUEL_LEVELS)
+    hold("no arguments: what it shows", "examples/fuel_supply with 10 levels" in ran.errors, ran)
+    printed("from another folder", copy.run(cwd="/"), FUEL_LEVELS)
+    folder = os.path.dirname(ROAD[0])
+    printed("names from here", copy.run("tree.ftf", "./sheet.fts", "2", cwd=folder), ROAD_LEVELS)
+    printed("a number with zeros before it", copy.run(*ROAD, "0002"), ROAD_LEVELS)
+    printed("a number with 5,000 zeros before it", copy.run(*ROAD, "0" * 5000 + "2"), ROAD_LEVELS)
+    ran = run([PYTHON, os.path.relpath(copy.command, folder), "tree.ftf", "sheet.fts", "2"], cwd=folder,
+              env={"PATH": copy.tools})
+    printed("by python3 and a path from here", ran, ROAD_LEVELS)
+    os.symlink(copy.command, os.path.join(work, "link"))
+    os.mkdir(os.path.join(work, "links"))
+    os.symlink("../link", os.path.join(work, "links/to link"))
+    ran = run(["links/to link", *ROAD, "2"], cwd=work, env={"PATH": copy.tools})
+    printed("through two links", ran, ROAD_LEVELS)
+    ran = copy.run("levels", *ROAD, "2")
+    printed("the word levels", ran, ROAD_LEVELS)
+    hold("the word levels: no errors", ran.errors == "", ran)
+    hold("nothing written beside the modules", sorted(os.listdir(copy.home + "/desk")) == [
+        "__init__.py", "build.py", "child.py", "main.py", "pair.py", "refusal.py", "screen.py"])
+    for words in (["--help"], ["-h"], ["levels", "--help"]):
+        ran = copy.run(*words)
+        hold(f"{words}: status", ran.status == 0, ran)
+        for text in (b"nekbrod TREE SHEET LEVELS", b"nekbrod levels TREE SHEET LEVELS", b"--version", b"Exit status",
+                     b"128 + n"):
+            hold(f"{words}: {text}", text in ran.out, ran)
+        hold(f"{words}: no errors", ran.errors == "", ran)
+    ran = copy.run("--version")
+    hold("version: status", ran.status == 0, ran)
+    hold("version: as in VERSION", ran.out == b"nekbrod " + read(os.path.join(ROOT, "VERSION")), ran)
+    hold("version: three numbers", re.fullmatch(rb"nekbrod [0-9]+\.[0-9]+\.[0-9]+\n", ran.out), ran)
+    write(copy.home + "/VERSION", "7.8.9\n")
+    ran = copy.run("--version")
+    hold("version: another", ran.out == b"nekbrod 7.8.9\n", ran)
+    os.remove(copy.home + "/VERSION")
+    stopped("version: none", copy.run("--version"), 3, "version is not known.*VERSION")
+    shutil.copy(os.path.join(ROOT, "VERSION"), copy.home)
+
+
+def file_names(work, copy):
+    names = os.path.join(work, "names")
+    for name in ("the tree", "-n", "--help", "--version", "levels", "%s\\n\\1", "$HOME *", "it's", '"', "\udcff\u00e9"):
+        write(os.path.join(names, name), read(ROAD[0]))
+        write(os.path.join(names, name + ".fts"), read(ROAD[1]))
+        printed(f"the file name {name!r}", copy.run(name, name + ".fts", "2", cwd=names), ROAD_LEVELS)
+    ran = copy.run("\udcff.none", "x", "2", cwd=names)
+    stopped("a name that is not UTF-8", ran, 2, "there is no tree file \udcff.none$")
+
+
+def two(number):
+    return number.to_bytes(2, "little")
+
+
+def tree(records, links, number=7, count=None, version=1, letters=b"FTF"):
+    """A tree file: records are kind, a and b."""
+    count = len(records) if count is None else count
+    return letters + two(version) + two(number) + two(count) + b"".join(
+        bytes([kind]) + two(a) + two(b) for kind, a, b in records) + b"".join(two(link) for link in links)
+
+
+def sheet(entries, scores=(), number=7, count=None, experts=None, version=1, letters=b"FTS", after=b""):
+    """An opinion sheet: entries are four numbers, or a kind and sixteen bytes."""
+    count = len(entries) if count is None else count
+    experts = len(scores) if experts is None else experts
+    all_scores = bytes(scores) + bytes(16 - len(scores) - len(after)) + after
+    return letters + two(version) + two(number) + two(count) + bytes([experts]) + all_scores + b"".join(entries)
+
+
+def four(*numbers):
+    return b"\0" + b"".join(number.to_bytes(4, "little") for number in numbers)
+
+
+def terms(*of_experts, kind=1, last=0):
+    return bytes([kind, *of_experts]) + bytes(15 - len(of_experts)) + bytes([last])
+
+
+EVENT = (0, 0, 0)
+ONE = tree([EVENT], [])
+TWO = tree([EVENT, (0, 1, 0), (2, 0, 2)], [0, 1])
+GOOD = sheet([four(0, 1, 1, 2)])
+
+# Name, tree, sheet, levels, the printer's line, which of its number's rows in the page's table, the file, what is said.
+REFUSED = [
+    ("a tree of 8 bytes", bytes(8), GOOD, 2, "refused 1 at 8", 0, "tree", "the file has 8 bytes; allowed: at least 9"),
+    ("an empty sheet", ONE, b"", 2, "refused 1 at 0", 0, "sheet", "the file has 0 bytes; allowed: at least 26"),
+    ("a sheet's letters in a tree", tree([EVENT], [], letters=b"FTS"), GOOD, 2, "refused 2 at 0", 0, "tree",
+     "the letters are 'FTS'; allowed: 'FTF'"),
+    ("a zero among the sheet's letters", ONE, sheet([four(0, 0, 0, 0)], letters=b"F\0S"), 2, "refused 2 at 0", 0,
+     "sheet", "the letters are 'F\\x00S'; allowed: 'FTS'"),
+    ("a tree's version", tree([EVENT], [], version=257), GOOD, 2, "refused 3 at 3", 0, "tree",
+     "the version is 257; allowed: 1"),
+    ("a sheet's version", ONE, sheet([four(0, 0, 0, 0)], version=2), 2, "refused 3 at 3", 0, "sheet",
+     "the version is 2; allowed: 1"),
+    ("no node", tree([], []), GOOD, 2, "refused 4 at 7", 0, "tree", "N, the number of nodes, is 0; allowed: 1 to 1024"),
+    ("1,025 nodes", tree([EVENT], [], count=1025), GOOD, 2, "refused 4 at 7", 0, "tree",
+     "N, the number of nodes, is 1025; allowed: 1 to 1024"),
+    ("no event", ONE, sheet([], count=0), 2, "refused 4 at 7", 0, "sheet",
+     "E, the number of basic events, is 0; allowed: 1 to 1024"),
+    ("17 experts", ONE, sheet([four(0, 0, 0, 0)], experts=17), 2, "refused 4 at 9", 0, "sheet",
+     "the number of experts is 17; allowed: 0 to 16"),
+    ("a header of a tree alone", tree([], [], count=1), GOOD, 2, "refused 5 at 9", 0, "tree",
+     "the file has 9 bytes; allowed: 14, which is 7 × N + 7 for N = 1"),
+    ("a sheet with a byte more", ONE, GOOD + b"\0", 2, "refused 5 at 44", 0, "sheet",
+     "the file has 44 bytes; allowed: 43, which is 26 + 17 × E for E = 1"),
+    ("a record of kind 3", tree([EVENT, (3, 0, 1)], [0]), GOOD, 2, "refused 6 at 14", 0, "tree",
+     "record 1 has the kind 3; allowed: 0 (basic event), 1 (AND), 2 (OR)"),
+    ("an entry of kind 2", ONE, sheet([terms(kind=2)]), 2, "refused 6 at 26", 0, "sheet",
+     "the entry of event 0 has the kind 2; allowed: 0 (four numbers), 1 (opinions)"),
+    ("a second entry of kind 9", TWO, sheet([four(0, 0, 0, 0), terms(kind=9)]), 2, "refused 6 at 43", 0, "sheet",
+     "the entry of event 1 has the kind 9; allowed: 0 (four numbers), 1 (opinions)"),
+    ("an event's number", tree([EVENT, (0, 4, 0), (2, 0, 2)], [0, 1]), GOOD, 2, "refused 7 at 14", 0, "tree",
+     "record 1, a basic event, has a = 4 and b = 0; allowed: a = 1 and b = 0"),
+    ("an event with inputs", tree([(0, 0, 1)], []), GOOD, 2, "refused 7 at 9", 0, "tree",
+     "record 0, a basic event, has a = 0 and b = 1; allowed: a = 0 and b = 0"),
+    ("a gate's first link", tree([EVENT, (1, 0, 1), (2, 0, 1)], [0, 1]), GOOD, 2, "refused 7 at 19", 0, "tree",
+     "record 2, an OR gate, has a = 0 and b = 1; allowed: a = 1, b from 1 to 16, and a + b at most N - 1 = 2"),
+    ("a gate with no input", tree([EVENT, (1, 0, 0)], [0]), GOOD, 2, "refused 7 at 14", 0, "tree",
+     "record 1, an AND gate, has a = 0 and b = 0; allowed: a = 0, b from 1 to 16, and a + b at most N - 1 = 1"),
+    ("too few links", tree([EVENT, (0, 1, 0)], [0]), GOOD, 2, "refused 7 at 19", 1, "tree",
+     "all b together are 0; allowed: N - 1 = 1"),
+    ("a score of 0", TWO, sheet([terms(1), terms(1)], scores=[0]), 2, "refused 7 at 10", 2, "sheet",
+     "expert 0's score is 0; allowed: 1 to 100"),
+    ("a score of 101 at a place where the tree has a record", TWO,
+     sheet([terms(1), terms(1)], scores=[1, 2, 3, 4, 101]), 2, "refused 7 at 14", 2, "sheet",
+     "expert 4's score is 101; allowed: 1 to 100"),
+    ("a score after the last expert", ONE, sheet([four(0, 0, 0, 0)], after=b"\1"), 2, "refused 7 at 25", 2, "sheet",
+     "expert 15's score is 1; allowed: 0 after the last expert (experts: 0)"),
+    ("a gate linked to itself", tree([EVENT, (1, 0, 1)], [1]), GOOD, 2, "refused 8 at 19", 0, "tree",
+     "link 0, input 0 of gate 1 (AND), names node 1; allowed: a node below 1"),
+    ("a second input above its gate", tree([EVENT, (0, 1, 0), (1, 0, 2), (2, 2, 1)], [0, 3, 2]), GOOD, 2,
+     "refused 8 at 31", 0, "tree", "link 1, input 1 of gate 2 (AND), names node 3; allowed: a node below 2"),
+    ("two gates over one event", tree([EVENT, (1, 0, 1), (2, 1, 1)], [0, 0]), GOOD, 2, "refused 9 at 26", 0, "tree",
+     "link 1, input 0 of gate 2 (OR), names node 0; allowed: a node that no link before it names, "
+     "and link 0, input 0 of gate 1 (AND) names this one"),
+    ("four numbers out of order", ONE, sheet([four(1, 0, 0, 0)]), 2, "refused 10 at 26", 0, "sheet",
+     "the entry of event 0 has the four numbers 1, 0, 0, 0; "
+     "allowed: each at least the one before it, and at most 1000000000"),
+    ("a number above 1", TWO, sheet([four(0, 0, 0, 0), four(0, 0, 0, 1000000001)]), 2, "refused 10 at 43", 0, "sheet",
+     "the entry of event 1 has the four numbers 0, 0, 0, 1000000001; "
+     "allowed: each at least the one before it, and at most 1000000000"),
+    ("a term of 8", ONE, sheet([terms(8)], scores=[1]), 2, "refused 11 at 27", 0, "sheet",
+     "expert 0's term for event 0 is 8; allowed: 0 to 7"),
+    ("a term after the last expert", TWO, sheet([terms(1, 1), terms(1, last=1)], scores=[1, 1]), 2,
+     "refused 11 at 59", 0, "sheet",
+     "expert 15's term for event 1 is 1; allowed: 0 after the last expert (experts: 2)"),
+    ("nobody spoke", ONE, sheet([terms()], scores=[1, 1]), 2, "refused 12 at 26", 0, "sheet",
+     "the entry of event 0 has no term but 0 (experts: 2); allowed: a term from 1 to 7 by one expert at the least"),
+]
+
+QUESTIONED = [
+    *((f"{n} levels", ONE, GOOD, n, "refused 13 at 0", f"The number of levels is {n}; allowed: 1 to 1000")
+      for n in (0, 1001, 65535)),
+    ("another tree's number", ONE, sheet([four(0, 0, 0, 0)], number=8), 2, "refused 24 at 0",
+     "The two files do not belong together: the tree file has the tree number 7 and E = 1, "
+     "the opinion sheet 8 and E = 1; allowed: the same in both"),
+    ("another number of events", TWO, GOOD, 2, "refused 24 at 0",
+     "The two files do not belong together: the tree file has the tree number 7 and E = 2, "
+     "the opinion sheet 7 and E = 1; allowed: the same in both"),
+]
+
+
+def table_rows():
+    """The cells of the page of refusals, by number."""
+    rows = {}
+    for line in read(os.path.join(ROOT, "docs/REFUSALS.md")).decode().splitlines():
+        matched = re.match(r"\| ([0-9]+) \|", line)
+        if matched:
+            cells = [cell.strip() for cell in line.replace("`", "").split("|")[2:-1]]
+            rows.setdefault(int(matched.group(1)), []).append(cells)
+    return rows
+
+
+def refused(name, ran, line, sentence, advice):
+    """The line of a refusal alone, status 1, the sentence, and the page to read on."""
+    hold(f"{name}: status", ran.status == 1, ran)
+    hold(f"{name}: the line alone", ran.out == line.encode() + b"\n", ran)
+    hold(f"{name}: two lines of errors", len(ran.lines) == 2, ran)
+    hold(f"{name}: the sentence", ran.lines[:1] == [f"nekbrod: {sentence}."], ran)
+    hold(f"{name}: what to do", ran.lines[1:] and ran.lines[1].startswith(f"nekbrod: {advice}; "), ran)
+    hold(f"{name}: where to read on", re.search(r"/docs/REFUSALS\.md says", ran.errors), ran)
+
+
+def refusals(work, copy):
+    rows = table_rows()
+    names = write(os.path.join(work, "pair/a tree"), b""), write(os.path.join(work, "pair/a sheet"), b"")
+    files = {"tree": f"The tree file {names[0]}", "sheet": f"The opinion sheet {names[1]}"}
+
+    def ask(tree_bytes, sheet_bytes, levels):
+        write(names[0], tree_bytes)
+        write(names[1], sheet_bytes)
+        return copy.run(*names, str(levels))
+
+    for name, tree_bytes, sheet_bytes, levels, line, which, file, found in REFUSED:
+        number, place = int(line.split()[1]), line.split()[3]
+        cells = rows[number][which]
+        refused(name, ask(tree_bytes, sheet_bytes, levels), line,
+                f"refusal {number}: {cells[0]}. {files[file]}, byte {place}: {found}", f"aboard: {cells[3]}")
+    for name, tree_bytes, sheet_bytes, levels, line, found in QUESTIONED:
+        cells = rows[int(line.split()[1])][0]
+        refused(name, ask(tree_bytes, sheet_bytes, levels), line,
+                f"refusal {line.split()[1]}: {cells[0]}. {found}", f"aboard: {cells[3]}")
+    given = {int(case[4].split()[1]) for case in REFUSED + QUESTIONED}
+    hold("each number that the printer gives", given == {*range(1, 14), 24})
+    ran = copy.run(ROAD[1], ROAD[0], "2")
+    hold("files in the wrong order", ran.out == b"refused 2 at 0\n" and ran.status == 1, ran)
+    look = "see that each file is the right one"
+    for length in (7176, 65535):
+        refused(f"a tree of {length} bytes", ask(bytes(length), GOOD, 2), "input",
+                f"the tree file {names[0]} has {length} bytes; allowed: at most 7175", look)
+    refused("a sheet of 17,435 bytes", ask(ONE, bytes(17435), 2), "input",
+            f"the opinion sheet {names[1]} has 17435 bytes; allowed: at most 17434", look)
+    refused("both files too long", ask(bytes(7176), bytes(17435), 2), "input",
+            f"the tree file {names[0]} has 7176 bytes; allowed: at most 7175; "
+            f"the opinion sheet {names[1]} has 17435 bytes; allowed: at most 17434", look)
+    the_page(copy, ask)
+
+
+def the_page(copy, ask):
+    """The rule's words are those of the page, and a page that is missing takes nothing else away."""
+    page = os.path.join(copy.home, "docs/REFUSALS.md")
+    kept = read(page)
+    write(page, kept.replace(b"an opinion entry in which nobody spoke", b"silence"))
+    ran = ask(ONE, sheet([terms()], scores=[1]), 2)
+    hold("the page's own words", "refusal 12: silence. The opinion sheet" in ran.errors, ran)
+    os.remove(page)
+    ran = ask(ONE, sheet([terms()], scores=[1]), 2)
+    hold("no page: status", ran.status == 1, ran)
+    hold("no page: the sentence", "refusal 12. The opinion sheet" in ran.errors, ran)
+    write(page, kept)
+
+
+def bad_arguments(work, copy):
+    for name, words in (("one argument", [ROAD[0]]), ("two arguments", ROAD), ("four arguments", [*ROAD, "2", "2"]),
+                        ("an empty argument", [""]), ("levels alone", ["levels"]),
+                        ("levels and one file", ["levels", ROAD[0]]),
+                        ("levels and four", ["levels", *ROAD, "2", "2"]), ("an unknown word", ["--wat"]),
+                        ("version and more", ["--version", "2"])):
+        stopped(name, copy.run(*words), 2, "nekbrod --help")
+    for n in ("", "ten", "-1", "+1", "1.5", "0x10", " 5", "5 ", "5\n", "٣", "1_0"):
+        ran = copy.run(*ROAD, n)
+        hold(f"{n!r} levels: status", ran.status == 2, ran)
+        hold(f"{n!r} levels: nothing printed", ran.out == b"", ran)
+        hold(f"{n!r} levels: said", ran.errors == f"nekbrod: the number of levels is a number, not '{n}'\n", ran)
+    for n in ("65536", "99999999999999999999", "9" * 5000):
+        stopped(f"{n[:20]} levels", copy.run(*ROAD, n), 2, f"the number of levels is at most 65535, not {n}$")
+    none = os.path.join(work, "none")
+    stopped("no such tree", copy.run(none, ROAD[1], "2"), 2, "there is no tree file .*none$")
+    stopped("no such sheet", copy.run(ROAD[0], none, "2"), 2, "there is no opinion sheet .*none$")
+    stopped("an empty name", copy.run("", ROAD[1], "2"), 2, "there is no tree file")
+    stopped("a folder", copy.run(work, ROAD[1], "2"), 2, "is not a file")
+    long = write(os.path.join(work, "long"), bytes(65536))
+    stopped("a sheet of 65,536 bytes", copy.run(ROAD[0], long, "2"), 2,
+            "the opinion sheet .* is longer than 65535 bytes")
+    stopped("a tree of 65,536 bytes", copy.run(long, ROAD[1], "2"), 2, "the tree file .* is longer than 65535 bytes")
+    hold("bad arguments: rt is not asked", copy.calls() == [])
+    shut = write(os.path.join(work, "shut"), read(ROAD[0]))
+    os.chmod(shut, 0)
+    if not CAN_BE_SHUT_OUT:
+        skipped.append("a file that can't be read: root reads every file, and nobody has no python3")
+        return
+    stopped("a file that can't be read", copy.run(shut, shut, "2", cwd="/", **SHUT_OUT), 2,
+            "the tree file .*shut cannot be read: Permission denied")
+
+
+def building(copy):
+    stopped("nothing built and no rt", copy.run(*ROAD, "2"), 3, "not built.*rt is not on the path")
+    copy.stand_in()
+    ran = copy.run()
+    printed("a first run", ran, FUEL_LEVELS)
+    hold("a first run: what it does", "proving and building" in ran.errors, ran)
+    hold("a first run: rt's lines", "nekbrod: printer proved (1 s)\n" in ran.errors, ran)
+    hold("a first run: not the prover's lines", "some::function" not in ran.errors, ran)
+    hold("a first run: nothing of what is unchanged", "unchanged" not in ran.errors, ran)
+    hold("a first run: no passing line", "\r" not in ran.errors, ran)
+    hold("a first run: the call", copy.calls() == ["check levels"], ran)
+    ran = copy.run(*ROAD, "2")
+    printed("a second run", ran, ROAD_LEVELS)
+    hold("a second run: no errors", ran.errors == "", ran)
+    hold("a second run: rt is asked", copy.calls() == ["check levels"] * 2, ran)
+    os.remove(copy.program)
+    ran = copy.run(*ROAD, "2")
+    printed("a program that was removed", ran, ROAD_LEVELS)
+    copy.change("#!/bin/sh\necho tree of another source\n")
+    ran = copy.run(*ROAD, "2")
+    printed("another source with an old date", ran, b"tree of another source\n")
+    hold("another source: said", "nekbrod: proving what has changed" in ran.errors, ran)
+    os.utime(copy.source)
+    ran = copy.run(*ROAD, "2")
+    hold("a new date alone: nothing proved", ran.errors == "", ran)
+    copy.stand_in(begin="sleep 2")
+    ran = copy.run(*ROAD, "2")
+    hold("a slow rt where nothing changed: nothing said", ran.errors == "" and ran.status == 0, ran)
+    without_rt(copy)
+
+
+def without_rt(copy):
+    copy.without_rt()
+    copy.change("#!/bin/sh\necho tree of a third source\n")
+    ran = copy.run(*ROAD, "2")
+    printed("no rt: as it is", ran, b"tree of another source\n")
+    hold("no rt: one line", len(ran.lines) == 1, ran)
+    hold("no rt: said", re.search("rt is not on the path.*run as it is.*older than its sources", ran.errors), ran)
+    os.remove(os.path.join(copy.target, "stamp/levels"))
+    stopped("no rt and no stamp", copy.run(*ROAD, "2"), 3, "not seen to be right.*rt is not on the path")
+
+
+def failing_builds(copy):
+    for name, words in (
+            ("a proof that fails", {"before": "echo a line that says why", "status": 1}),
+            ("a stored case that fails", {"after": 'cp "$source" target/bin/levels', "status": 1}),
+            ("a toolchain that fails", {"before": "echo 'crates/x.rt:3:4: error' >&2", "status": 2})):
+        copy.empty()
+        copy.stand_in(**words)
+        for turn in ("first", "again"):
+            ran = copy.run(*ROAD, "2")
+            name_here = f"{name}, {turn}"
+            hold(f"{name_here}: status", ran.status == 3, ran)
+            hold(f"{name_here}: nothing printed", ran.out == b"", ran)
+            said = f"'rt check levels' failed: it ended with status {words['status']}. Its last lines:"
+            hold(f"{name_here}: said", said in ran.errors, ran)
+            hold(f"{name_here}: rt's last lines", "\nnekbrod:   fn some::function: proved\n" in ran.errors, ran)
+            hold(f"{name_here}: the log's name", ran.lines[-1].endswith("target/nekbrod.log has all that rt said"), ran)
+            log = read(copy.target + "/nekbrod.log").decode()
+            whole = log.startswith("rt: theory") and log.endswith("rt: levels proved (2 s)\n")
+            hold(f"{name_here}: the log", whole, ran)
+            if "before" in words:
+                why = words["before"].split("echo ")[1].split(" >&2")[0].strip("'")
+                hold(f"{name_here}: why", f"nekbrod:   {why}\n" in ran.errors and why in log, ran)
+    copy.empty()
+    copy.stand_in(before="i=0; while [ $i -lt 40 ]; do echo line $i; i=$((i + 1)); done", status=1,
+                  after="echo 'rt: levels NOT PROVED: its dependency printer is not proved'")
+    ran = copy.run(*ROAD, "2")
+    hold("a long failure: its last twelve lines", "  line 39" in ran.errors and "  line 31" in ran.errors
+         and "  line 30" not in ran.errors, ran)
+    hold("a long failure: not what only rests on it", "its dependency" not in ran.errors, ran)
+    copy.stand_in(leaves="rm -f target/bin/levels")
+    ran = copy.run(*ROAD, "2")
+    hold("rt leaves no program: status", ran.status == 3, ran)
+    hold("rt leaves no program: said", "left no program" in ran.errors, ran)
+    copy.stand_in(before="kill -9 $$")
+    ran = copy.run(*ROAD, "2")
+    hold("rt is killed", ran.status == 3 and "it was ended by signal 9" in ran.errors, ran)
+
+
+def unwritable(copy):
+    """A lock that is a folder can't be written by root either."""
+    copy.empty()
+    copy.stand_in()
+    copy.change(read(LEVELS))
+    write(copy.target, "not a folder")
+    stopped("target/ is a file", copy.run(*ROAD, "2"), 3, "not built.*target cannot be written: ")
+    os.remove(copy.target)
+    ran = copy.run(*ROAD, "2")
+    printed("target/ can be made", ran, ROAD_LEVELS)
+    os.remove(copy.target + "/nekbrod.lock")
+    os.mkdir(copy.target + "/nekbrod.lock")
+    ran = copy.run(*ROAD, "2")
+    printed("target/ can't be written", ran, ROAD_LEVELS)
+    hold("target/ can't be written: one line", len(ran.lines) == 1, ran)
+    said = re.search("target/nekbrod.lock cannot be written: .*run as it is", ran.errors)
+    hold("target/ can't be written: said", said, ran)
+    os.rmdir(copy.target + "/nekbrod.lock")
+    write(copy.target + "/nekbrod.lock", "")
+    if not CAN_BE_SHUT_OUT:
+        skipped.append("a folder without the right to write: root writes in every folder, and nobody has no python3")
+        return
+    names = [write(os.path.join(copy.home, os.path.basename(name)), read(name)) for name in ROAD]
+    os.makedirs(copy.target + "/log")
+    for folder in ("", "/log", "/stamp"):
+        for inner in ("", "/bin", "/log", "/stamp", "/nekbrod.lock"):
+            if IS_ROOT:
+                os.chown(copy.target + inner, NOBODY, NOBODY)
+        os.chmod(copy.target + folder, 0o555)
+        ran = copy.run(*names, "2", cwd="/", **SHUT_OUT)
+        os.chmod(copy.target + folder, 0o755)
+        printed(f"target{folder} without the right to write", ran, ROAD_LEVELS)
+        said = re.search(f"target{folder} cannot be written: Permission denied; .*run as it is", ran.errors)
+        hold(f"target{folder}: said", said, ran)
+    os.rename(copy.target, copy.target + ".kept")
+    os.chmod(copy.home, 0o555)
+    ran = copy.run(*names, "2", cwd="/", **SHUT_OUT)
+    os.chmod(copy.home, 0o755)
+    stopped("a first run in a folder without the right to write", ran, 3,
+            "not built, and .*target cannot be written: Permission denied")
+    os.rename(copy.target + ".kept", copy.target)
+
+
+def is_alive(pid):
+    try:
+        with open(f"/proc/{pid}/stat", encoding="latin-1") as file:
+            return file.read().rsplit(")", 1)[1].split()[0] not in "ZX"
+    except (FileNotFoundError, ProcessLookupError):
+        return False
+
+
+def long_build(copy, trap=""):
+    """A build with children of its own that would take minutes; its ids go to a note."""
+    copy.empty()
+    copy.stand_in(before=f"""{trap}
+sleep 300 >/dev/null 2>&1 &
+one=$!
+(sleep 300; true) >/dev/null 2>&1 &
+echo $$ $one $! >'{copy.notes}/ids'
+wait""")
+
+
+def interrupted(name, copy, process, number):
+    """After a signal nothing is left, the status is 128 + it, and the next run ends right."""
+    hold(f"{name}: it builds", until(lambda: copy.note("ids").endswith("\n")))
+    pids = copy.note("ids").split()
+    time.sleep(0.1)
+    hold(f"{name}: its children live", len(pids) == 3 and all(map(is_alive, pids)))
+    began = time.monotonic()
+    process.send_signal(number)
+    ran = ended(process)
+    hold(f"{name}: status", ran.status == 128 + number, ran)
+    hold(f"{name}: nothing printed", ran.out == b"", ran)
+    hold(f"{name}: said", f"nekbrod: ended by {signal.Signals(number).name}\n" in ran.errors, ran)
+    hold(f"{name}: no child left", not any(map(is_alive, pids)), ran)
+    copy.stand_in()
+    printed(f"{name}: the next run", copy.run(*ROAD, "2"), ROAD_LEVELS)
+    return time.monotonic() - began
+
+
+def signals(copy):
+    for number in (signal.SIGINT, signal.SIGTERM, signal.SIGHUP, signal.SIGQUIT):
+        long_build(copy)
+        took = interrupted(signal.Signals(number).name, copy, copy.start(*ROAD, "2"), number)
+        hold(f"{signal.Signals(number).name}: at once", took < 4)
+    long_build(copy, trap="trap '' TERM")
+    interrupted("children that ignore TERM", copy, copy.start(*ROAD, "2"), signal.SIGINT)
+    copy.empty()
+    copy.stand_in(before=f"echo >'{copy.notes}/begun'; sleep 0.5")
+    process = copy.start(*ROAD, "2", preexec_fn=lambda: signal.signal(signal.SIGHUP, signal.SIG_IGN))
+    until(lambda: copy.note("begun"))
+    process.send_signal(signal.SIGHUP)
+    printed("HUP that was ignored at the start", ended(process), ROAD_LEVELS)
+    copy.change(f"#!/bin/sh\necho $$ >'{copy.notes}/printer'\nexec sleep 300\n")
+    process = copy.start(*ROAD, "2")
+    until(lambda: copy.note("printer").endswith("\n"))
+    process.send_signal(signal.SIGINT)
+    ran = ended(process)
+    hold("INT while it prints: status", ran.status == 130 and ran.out == b"", ran)
+    hold("INT while it prints: nothing left", not is_alive(copy.note("printer").strip()), ran)
+    copy.change(read(LEVELS))
+
+
+def two_at_once(copy):
+    copy.empty()
+    copy.stand_in(before=f"echo >'{copy.notes}/begun'; sleep 3")
+    one = copy.start(*ROAD, "2")
+    hold("two at once: one builds", until(lambda: copy.note("begun")))
+    other, third = copy.start(*ROAD, "2"), copy.start(*ROAD, "2")
+    time.sleep(0.5)
+    third.send_signal(signal.SIGINT)
+    third = ended(third)
+    hold("two at once: INT ends one that waits", third.status == 130 and third.out == b"", third)
+    one, other = ended(one), ended(other)
+    printed("two at once: the one", one, ROAD_LEVELS)
+    printed("two at once: the other", other, ROAD_LEVELS)
+    hold("two at once: the one builds", "proving and building" in one.errors and "another run" not in one.errors, one)
+    waits = other.errors.startswith("nekbrod: another run is building or checking")
+    hold("two at once: the other says that it waits", waits, other)
+    hold("two at once: the other does not build", "printer proved" not in other.errors, other)
+    hold("two at once: rt alone at a time", copy.calls() == ["check levels"] * 2 and copy.note("overlap") == "", other)
+    copy.empty()
+    # What it prints after its reader was killed is lost, and it goes on.
+    copy.stand_in(before=f"trap '' PIPE; echo >'{copy.notes}/begun'; sleep 2")
+    one = copy.start(*ROAD, "2")
+    until(lambda: copy.note("begun"))
+    one.kill()
+    one.wait()
+    printed("after a run that was killed", copy.run(*ROAD, "2"), ROAD_LEVELS)
+    hold("after a run that was killed: rt alone at a time", copy.note("overlap") == "")
+    one.communicate()
+    lock_file_removed(copy)
+
+
+def lock_file_removed(copy):
+    """Where target/ goes while one waits, the one that waited takes the lock that is there then."""
+    copy.empty()
+    copy.stand_in(before=f"echo >>'{copy.notes}/begun'; sleep 1.5")
+    one = copy.start(*ROAD, "2")
+    until(lambda: copy.note("begun"))
+    other = copy.start(*ROAD, "2")
+    time.sleep(0.5)
+    os.remove(copy.target + "/nekbrod.lock")
+    ended(one)
+    printed("the lock's file removed", ended(other), ROAD_LEVELS)
+    hold("the lock's file removed: there again", os.path.exists(copy.target + "/nekbrod.lock"))
+
+
+def on_terminal(copy, *words, **more):
+    """A run with a terminal as its standard error, and what the terminal got."""
+    ours, theirs = pty.openpty()
+    process = copy.start(*words, stderr=theirs, **more)
+    os.close(theirs)
+    text = b""
+    while True:
+        try:
+            piece = os.read(ours, 4096)
+        except OSError:
+            break
+        if not piece:
+            break
+        text += piece
+    os.close(ours)
+    ran = ended(process)
+    return Run(ran.status, ran.out, text)
+
+
+def terminals(copy):
+    copy.empty()
+    copy.stand_in(before="sleep 1.2", after="sleep 1.2")
+    ran = on_terminal(copy, *ROAD, "2")
+    printed("on a terminal", ran, ROAD_LEVELS)
+    for name, words in (("the first crate", "printer, 1 of 3"), ("the next crate", "levels, 2 of 3")):
+        shown = re.search(rf"\r\x1b\[Knekbrod: {words} crates proved, [0-9]+ s\r", ran.errors)
+        hold(f"progress: {name}", shown, ran)
+    hold("progress: cleared before a line", re.search(r"\r\x1b\[Knekbrod: printer proved \(1 s\)", ran.errors), ran)
+    hold("progress: cleared at the end", ran.errors.rsplit("nekbrod: ", 1)[1].endswith("\r\x1b[K")
+         or ran.errors.endswith("\n"), ran)
+    ran = on_terminal(copy, *ROAD, "2")
+    hold("on a terminal, nothing changed: nothing said", ran.errors == "", ran)
+    ours, theirs = pty.openpty()
+    process = copy.start(*ROAD, "2", stdout=theirs, stderr=theirs)
+    os.close(theirs)
+    process.wait(timeout=LONGEST)
+    text = os.read(ours, 65536).decode()
+    os.close(ours)
+    hold("on a terminal: the marks explained", text.endswith("= exact, ~ rounded outward\r\n"))
+
+
+def other_program(copy, commands):
+    copy.change(f"#!/bin/sh\n{commands}\n")
+    return copy.run(*ROAD, "2")
+
+
+def last_of(ran):
+    """The run without what is said while it builds."""
+    return Run(ran.status, ran.out, "".join(line + "\n" for line in ran.lines[-1:]).encode())
+
+
+def broken_programs(copy):
+    copy.stand_in()
+    stopped("a program that prints nothing", last_of(other_program(copy, ":")), 3, "neither levels nor a refusal")
+    stopped("a program that prints something else", last_of(other_program(copy, "echo hello")), 3,
+            "neither levels nor a refusal")
+    stopped("a program that fails", last_of(other_program(copy, "echo tree; exit 7")), 3, "ended with status 7")
+    stopped("a program that is killed", last_of(other_program(copy, "kill -9 $$")), 3, "ended by signal 9")
+    copy.change("\0\0not a program")
+    stopped("a program that can't be run", last_of(copy.run(*ROAD, "2")), 3, "could not be run")
+    for line in ("refused 99 at 3", "refused 8 at 99999", "refused 7 at 0", "refused x"):
+        ran = other_program(copy, f"echo {line}")
+        hold(f"a program that says '{line}'", ran.status == 1 and ran.out == line.encode() + b"\n"
+             and "docs/REFUSALS.md" in ran.lines[-1] and "Traceback" not in ran.errors, ran)
+    ran = other_program(copy, "cat >'" + copy.notes + "/input'; echo tree of no consequence")
+    files = [read(name) for name in ROAD]
+    expected = two(2) + two(len(files[0])) + two(len(files[1])) + files[0] + files[1]
+    hold("the printer's input", read(copy.notes + "/input") == expected, ran)
+    long = "tree " + "x" * 300000
+    write(copy.notes + "/long", long)
+    ran = other_program(copy, "cat '" + copy.notes + "/long'")
+    printed("a long text without a line feed, and input that is not read", ran, long.encode())
+    copy.change(read(LEVELS))
+    copy.run(*ROAD, "2")
+
+
+def outputs(copy):
+    if os.path.exists("/dev/full"):
+        for name, words in (("levels", [*ROAD, "2"]), ("help", ["--help"]), ("version", ["--version"])):
+            with open("/dev/full", "wb") as full:
+                ran = copy.run(*words, stdout=full)
+            hold(f"a full disk, {name}: status", ran.status == 3, ran)
+            hold(f"a full disk, {name}: said", "could not be written: No space left" in ran.errors, ran)
+            hold(f"a full disk, {name}: one line", len(ran.lines) == 1, ran)
+    ran = copy.run(*ROAD, "2", stdout=None, preexec_fn=lambda: os.close(1))
+    hold("a closed output: status", ran.status == 3, ran)
+    hold("a closed output: said", "could not be written: standard output is closed" in ran.errors, ran)
+    ran = copy.run(stderr=None, preexec_fn=lambda: os.close(2))
+    printed("closed errors", ran, FUEL_LEVELS)
+    with open("/dev/full", "wb") as full:
+        printed("full errors", copy.run(stderr=full), FUEL_LEVELS)
+    printed("a closed input", copy.run(*ROAD, "2", stdin=None, preexec_fn=lambda: os.close(0)), ROAD_LEVELS)
+    reader, writer = os.pipe()
+    os.close(reader)
+    ran = copy.run(*ROAD, "2", stdout=writer)
+    os.close(writer)
+    hold("a broken pipe: ended by it, without a word", ran.status == -signal.SIGPIPE and ran.errors == "", ran)
+
+
+def main():
+    if not os.access(LEVELS, os.X_OK):
+        print(f"{LEVELS} is not built: rt check levels")
+        return 2
+    signal.signal(signal.SIGTERM, lambda *_: sys.exit(2))
+    os.umask(0o022)
+    with tempfile.TemporaryDirectory() as work:
+        os.chmod(work, 0o755)
+        shipped_examples()
+        copy = Copy(work, "a copy")
+        bad_arguments(work, copy)
+        file_names(work, copy)
+        refusals(work, copy)
+        calls(work, copy)
+        outputs(copy)
+        bare = Copy(work, "bare copy", built=False)
+        building(bare)
+        failing_builds(bare)
+        unwritable(bare)
+        broken_programs(bare)
+        signals(bare)
+        two_at_once(bare)
+        terminals(bare)
+    for name in skipped:
+        print(f"skipped: {name}")
+    print(f"command.sh: {passed} checks passed, {failed} failed")
+    return 0 if failed == 0 else 1
+
+
+sys.exit(main())
