@@ -20,7 +20,8 @@ use Rattle.monitor.specs.declared.question.Report.{Report}
 use Rattle.monitor.specs.declared.question.Outcome.{Outcome}
 use Rattle.monitor.specs.declared.question.Outcome.the-variants.{Answered, Refused}
 
--- 2 × E − 1, by how many units an end may be off for E basic events: a tree has at least one.
+-- 2 × E − 1, by how many units an end may be off for E basic events: an accepted tree has at least one, so that the
+-- subtraction does not stop at 0.
 abbrev pub allowance : ℕ → ℕ
 allowance E = 2 * E - 1
 
