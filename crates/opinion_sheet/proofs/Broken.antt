@@ -15,8 +15,9 @@ use Rattle.refusals.specs.Order.{refusal, stage, order-place, Earlier, by-stage
 use Rattle.refusals.specs.declared.rule.Rule.the-variants as rule
 use Rattle.refusals.specs.declared.refusal.Refusal.{Refusal}
 use Rattle.refusals.specs.declared.refusal.FirstFault.{FirstFault}
-use Rattle.refusals.specs.declared.refusal.FirstFault.the-variants.{Absent}
+use Rattle.refusals.specs.declared.refusal.FirstFault.the-variants.{Found, Absent}
 use Rattle.refusals.proofs.FirstFault.{unless-holds, among-each}
+use Rattle.refusals.proofs.Order.{first-unique}
 use Rattle.opinion_sheet.specs.Format.{has-letters, version, event-count, expert-count, required-length, score}
 use Rattle.opinion_sheet.specs.Format.{entry-at, kind, terms-at, term, unit}
 use Rattle.opinion_sheet.specs.HeaderRules.{within, header-rules, header-fault}
@@ -384,3 +385,11 @@ module _ (file : List ℕ) where
   pub accepted-unbroken : (counts : Counts) → judged file ≡ Accepted counts → (q : Refusal) → Breaks file q → ⊥
   accepted-unbroken counts h =
       subst (Finds (Breaks file)) (accepted-absent (fault-of file) (counts-of file) counts h .0) first-broken
+
+  -- A refusal is given under its condition and not otherwise: the first broken rule is the one refused by.
+  pub first-refused : (r : Refusal) → First (Breaks file) r → judged file ≡ Refused r
+  first-refused r h = go (fault-of file) refl
+    where
+      go : (f : FirstFault) → fault-of file ≡ f → judged file ≡ Refused r
+      go (Found q) e = rw e (ap Refused (first-unique (subst (Finds (Breaks file)) e first-broken) h))
+      go Absent e = absurd (subst (Finds (Breaks file)) e first-broken r (h .broken))
