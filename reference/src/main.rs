@@ -109,9 +109,9 @@ fn any_kind(word: &str) -> Result<Kind, Failure> {
     parse_kind(word).ok_or(Failure::Usage)
 }
 
-/// Lists of calls are no input of a level printer.
+/// Lists of calls are no input of a level printer, and no case shows no difference.
 fn compare_cases(cases: Cases, program: &[&str]) -> Result<(), Failure> {
-    if cases.kind == Kind::Calls {
+    if cases.kind == Kind::Calls || cases.count == 0 {
         return Err(Failure::Usage);
     }
     let outcome = compare(cases, program)?;
