@@ -130,7 +130,8 @@ in_pieces() { { head -c 3 "$in"; sleep 0.1; tail -c +4 "$in"; } | "$levels"; }
 pieces() {
     road_trip 2 >"$in"
     run in_pieces
-    hold "an input in two pieces" cmp -s "$work/out" "$examples/road_trip/levels-2.txt"
+    hold "an input in two pieces: status" [ "$status" -eq 0 ]
+    hold "an input in two pieces: levels" cmp -s "$work/out" "$examples/road_trip/levels-2.txt"
 }
 
 answers

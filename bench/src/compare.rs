@@ -4,11 +4,16 @@
 use crate::capi::{CAPI, PEER};
 use crate::desk::{guarded, Desk, Difference, Tally};
 use reference::calls::{parse_call, Call};
+use reference::cases::large_damage::LARGE_DAMAGES;
 use reference::cases::limits::LIMITS;
+use reference::cases::valid::{lively_pair, small_tree};
 use reference::cases::vector_list::vector_list;
 use reference::cases::{write_case, Kind};
 use reference::cut::Level;
 use reference::levels::INPUT_HEADER;
+use reference::random::Random;
+use reference::sheet_judge::judge_sheet;
+use reference::tree_judge::judge_tree;
 use reference::{opinion_sheet, tree_file};
 use std::fmt::{self, Display, Formatter};
 
@@ -20,11 +25,13 @@ pub struct Cases {
     pub first: u64,
 }
 
-/// What is run: the stored calls and the limits come before the generated cases of a whole run.
+/// What is run: the stored calls, the limits and the faults in large files come before the generated cases of a whole
+/// run.
 #[derive(Clone, Copy, Debug)]
 pub enum Case {
     Stored,
     Limit(u64),
+    Large(u64),
     Generated(u64),
 }
 
@@ -32,7 +39,7 @@ impl Case {
     /// The words that run this case again, with little beside it.
     pub fn again(self, seed: u64) -> String {
         match self {
-            Case::Stored | Case::Limit(_) => format!("{seed} 0"),
+            Case::Stored | Case::Limit(_) | Case::Large(_) => format!("{seed} 0"),
             Case::Generated(index) => format!("{seed} 1 {index}"),
         }
     }
@@ -40,7 +47,8 @@ impl Case {
     fn calls(self, seed: u64) -> Vec<Call> {
         match self {
             Case::Stored => vector_list(),
-            Case::Limit(index) => input_calls(&write_case(Kind::Limits, seed, index)),
+            Case::Limit(index) => input_calls(&write_case(Kind::Limits, seed, index), seed ^ index),
+            Case::Large(index) => input_calls(&write_case(Kind::Large, seed, index), seed ^ index),
             Case::Generated(index) => generated_calls(seed, index),
         }
     }
@@ -51,6 +59,7 @@ impl Display for Case {
         match self {
             Case::Stored => write!(out, "stored calls"),
             Case::Limit(index) => write!(out, "limit {index}"),
+            Case::Large(index) => write!(out, "fault {index} in a large file"),
             Case::Generated(index) => write!(out, "case {index}"),
         }
     }
@@ -64,13 +73,14 @@ pub struct Found {
     pub difference: Difference,
 }
 
-/// Runs the cases to the first difference. A run from case 0 on has the stored calls and every limit before them.
+/// Runs the cases to the first difference. A run from case 0 on has the stored calls, every limit and every fault in
+/// large files before them.
 pub fn compare(cases: Cases) -> (Tally, Result<(), Found>) {
     let mut tally = Tally::default();
-    let limits = if cases.first == 0 { LIMITS.len() as u64 } else { 0 };
-    let stored = (cases.first == 0).then_some(Case::Stored);
+    let listed = (0..LIMITS.len() as u64).map(Case::Limit).chain((0..LARGE_DAMAGES as u64).map(Case::Large));
+    let first = [Case::Stored].into_iter().chain(listed).filter(|_| cases.first == 0);
     let generated = (cases.first..cases.first.saturating_add(cases.count)).map(Case::Generated);
-    for case in stored.into_iter().chain((0..limits).map(Case::Limit)).chain(generated) {
+    for case in first.chain(generated) {
         let mut desk = Desk::new(&[CAPI, PEER]);
         let outcome = run_calls(&mut desk, &case.calls(cases.seed));
         tally.add(desk.tally);
@@ -92,13 +102,27 @@ fn run_calls(desk: &mut Desk, calls: &[Call]) -> Result<(), (usize, Difference)>
 fn generated_calls(seed: u64, index: u64) -> Vec<Call> {
     if index.is_multiple_of(2) {
         let list = write_case(Kind::Calls, seed, index / 2);
-        return String::from_utf8_lossy(&list).lines().map_while(parse_call).collect();
+        let parsed = |line: &str| parse_call(line).unwrap_or_else(|| panic!("{line:?} is no call"));
+        return held_pair(seed ^ index).into_iter().chain(String::from_utf8_lossy(&list).lines().map(parsed)).collect();
     }
-    input_calls(&write_case(Kind::Mixed, seed, index / 2))
+    input_calls(&write_case(Kind::Mixed, seed, index / 2), seed ^ index)
 }
 
-/// The input's files handed in, whatever their lengths, and its levels: the outermost, the middle and the first ones.
-fn input_calls(input: &[u8]) -> Vec<Call> {
+/// Stores for the largest files, and a pair in them.
+fn held_pair(pair_seed: u64) -> Vec<Call> {
+    let random = &mut Random::for_case(pair_seed, 0);
+    let nodes = small_tree(random, 9);
+    let pair = lively_pair(random, nodes);
+    let stores = Call::Stores(
+        tree_file::file_length(tree_file::MOST_NODES),
+        opinion_sheet::file_length(opinion_sheet::MOST_EVENTS),
+    );
+    vec![stores, Call::Tree(pair.tree()), Call::Sheet(pair.sheet())]
+}
+
+/// The input's files, whatever their lengths, handed in over a held pair, and its levels: the outermost, the middle and
+/// the first ones. Where a file is refused, the first level meets what is held then and the others the pair again.
+fn input_calls(input: &[u8], pair_seed: u64) -> Vec<Call> {
     let field = |place: usize| match input.get(place..place + 2) {
         Some(bytes) => u16::from_le_bytes([bytes[0], bytes[1]]) as usize,
         None => 0,
@@ -106,17 +130,19 @@ fn input_calls(input: &[u8]) -> Vec<Call> {
     let files = input.get(INPUT_HEADER..).unwrap_or(&[]);
     let (tree, sheet) = files.split_at(field(2).min(files.len()));
     let n = field(0) as u32;
-    let stores = Call::Stores(
-        tree_file::file_length(tree_file::MOST_NODES),
-        opinion_sheet::file_length(opinion_sheet::MOST_EVENTS),
-    );
-    let mut calls = vec![stores, Call::Tree(tree.to_vec()), Call::Sheet(sheet.to_vec())];
-    for k in [n, 0, n / 2, 1, 2] {
-        let level = Level { k, n };
-        calls.push(Call::Judge(level));
-        calls.push(Call::Question(level, [tree_file::MOST_NODES; 3]));
+    let mut calls = held_pair(pair_seed);
+    calls.extend([Call::Tree(tree.to_vec()), Call::Sheet(sheet.to_vec())]);
+    calls.extend(level_calls(Level { k: n, n }));
+    if judge_tree(tree).is_err() || judge_sheet(sheet).is_err() {
+        calls.extend(held_pair(pair_seed));
     }
-    calls.push(Call::Drop);
-    calls.push(Call::Question(Level { k: 0, n: 1 }, [tree_file::MOST_NODES; 3]));
+    for k in [0, n / 2, 1, 2] {
+        calls.extend(level_calls(Level { k, n }));
+    }
+    calls.extend([Call::Drop, Call::Judge(Level { k: 0, n: 1 })]);
     calls
+}
+
+fn level_calls(level: Level) -> [Call; 2] {
+    [Call::Judge(level), Call::Question(level, [tree_file::MOST_NODES; 3])]
 }

@@ -40,6 +40,8 @@ pub struct Tally {
     pub calls: u64,
     pub questions: u64,
     pub answered: u64,
+    /// Questions where the tree or the sheet is missing: refusals 21 and 22.
+    pub unheld: u64,
     pub hand_ins: u64,
     pub accepted: u64,
 }
@@ -49,6 +51,7 @@ impl Tally {
         self.calls += other.calls;
         self.questions += other.questions;
         self.answered += other.answered;
+        self.unheld += other.unheld;
         self.hand_ins += other.hand_ins;
         self.accepted += other.accepted;
     }
@@ -184,6 +187,7 @@ impl Desk {
         let wanted = monitor::question(expected::held(state), stores, Level { k, n }, work);
         self.tally.questions += 1;
         self.tally.answered += u64::from(wanted.1.is_ok());
+        self.tally.unheld += u64::from(wanted.1.is_err_and(|refusal| [21, 22].contains(&refusal.number)));
         self.state = expected::state(wanted.0);
         self.compare(expected::reply(wanted), |library, memory| {
             let work = Work {

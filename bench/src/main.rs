@@ -10,7 +10,7 @@ use std::time::{Instant, SystemTime, UNIX_EPOCH};
 const USAGE: &str = "\
 bench                               questions through capi beside the same to the peer: ratios, and the cost per node
 bench compare [SEED COUNT [FIRST]]  generated cases through capi, the peer and reference/, from case FIRST on; with no
-                                    FIRST all limits too
+                                    FIRST all limits and all faults in large files too
 bench soak [SEED CALLS]             calls in a random order through capi and reference/, each checked
 ";
 
@@ -58,8 +58,9 @@ fn any_seed() -> u64 {
 }
 
 fn counts(tally: Tally) -> String {
-    let Tally { calls, questions, answered, hand_ins, accepted } = tally;
-    format!("{calls} calls: {questions} questions, {answered} answered; {hand_ins} hand-ins, {accepted} accepted")
+    let Tally { calls, questions, answered, unheld, hand_ins, accepted } = tally;
+    let questions = format!("{questions} questions, {answered} answered, {unheld} with nothing to answer from");
+    format!("{calls} calls: {questions}; {hand_ins} hand-ins, {accepted} accepted")
 }
 
 fn run_compare(cases: Cases) -> bool {
@@ -74,7 +75,7 @@ fn run_compare(cases: Cases) -> bool {
             println!("compare: to run it again alone: bench compare {}", found.case.again(seed));
         }
     }
-    outcome.is_ok()
+    outcome.is_ok() && tally.calls > 0
 }
 
 fn run_soak(seed: u64, calls: u64) -> bool {
@@ -85,7 +86,7 @@ fn run_soak(seed: u64, calls: u64) -> bool {
         Ok(()) => println!("soak: no difference in {} ({} s)", counts(tally), start.elapsed().as_secs()),
         Err(difference) => println!("soak: seed {seed}, call {}: {}", tally.calls, difference.0),
     }
-    outcome.is_ok()
+    outcome.is_ok() && tally.calls > 0
 }
 
 /// Figures are for reading: nothing is held to them here.

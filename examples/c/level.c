@@ -3,7 +3,7 @@
  *
  * The line is that of the level printer: k, the lower end in billionths and its mark, the upper end and its mark, where
  * = is exact and ~ is not. A refusal is printed with its number and place. Exit status: 0 answered, 1 refused, 2 the
- * arguments are wrong, a file can't be read, or the library is not that of the header.
+ * arguments are wrong, a file can't be read, or the library is not that of the header, 3 the answer can't be written.
  *
  * Build at the repository's root, after rt staticlib capi:
  *     cc -Iinclude examples/c/level.c target/staticlib/libcapi.a -o level
@@ -12,7 +12,7 @@
 #include <stdio.h>
 #include <stdlib.h>
 
-enum { ANSWERED = 0, REFUSED = 1, UNUSABLE = 2 };
+enum { ANSWERED = 0, REFUSED = 1, UNUSABLE = 2, UNWRITTEN = 3 };
 
 /* The bytes of a file, whatever its length, and that length. */
 struct file {
@@ -104,6 +104,11 @@ static int print_level(struct file tree, struct file sheet, uint32_t k, uint32_t
     }
     printf("%u %u %c %u %c\n", (unsigned)k, (unsigned)reply.lower, mark(reply.lower_exact), (unsigned)reply.upper,
            mark(reply.upper_exact));
+    /* What printf keeps is written here, so that a full disk or a closed output is seen. */
+    if (fflush(stdout) != 0 || ferror(stdout)) {
+        fprintf(stderr, "level: can't write the answer\n");
+        return UNWRITTEN;
+    }
     return ANSWERED;
 }
 

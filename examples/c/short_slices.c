@@ -1,7 +1,8 @@
 /*
- * What the calls answer where slices are null, empty or too short, and that nothing beside a slice is touched: each
- * slice ends where unmapped memory begins. And that header and library are of one version. Prints ok, or each line that
- * fails.
+ * What the calls answer where slices are null, empty or too short, and that nothing beside a slice is touched. All of it
+ * is done twice: with slices that end where unmapped memory begins, and with slices that begin where it ends. The rest
+ * of their page is filled and looked at in the end; files are on pages that can't be written. And that header and
+ * library are of one version. Prints ok, or each line that fails.
  *
  * Build at the repository's root, after rt staticlib capi:
  *     cc -Iinclude examples/c/short_slices.c target/staticlib/libcapi.a -o short_slices
@@ -32,22 +33,49 @@ static void expect(bool holds, int line)
 }
 #define EXPECT(holds) expect(holds, __LINE__)
 
-/* That many bytes, all filled, the byte after the last one unmapped. */
+/* Where a slice lies on its page: at its end, or at its start. */
+static bool at_the_end = true;
+
+/* A slice on a page of its own between two unmapped ones. */
+struct slice {
+    uint8_t *page;
+    uint8_t *bytes;
+    size_t len;
+};
+
+static struct slice slices[256];
+static size_t slice_count = 0;
+
+static size_t page_size(void)
+{
+    return (size_t)sysconf(_SC_PAGESIZE);
+}
+
+/* That many bytes, all filled. */
 static uint8_t *at_the_edge(size_t len)
 {
-    size_t page = (size_t)sysconf(_SC_PAGESIZE);
-    uint8_t *pages = mmap(NULL, 2 * page, PROT_READ | PROT_WRITE, MAP_PRIVATE | MAP_ANONYMOUS, -1, 0);
-    if (pages == MAP_FAILED || mprotect(pages + page, page, PROT_NONE) != 0) {
+    size_t page = page_size();
+    uint8_t *pages = mmap(NULL, 3 * page, PROT_NONE, MAP_PRIVATE | MAP_ANONYMOUS, -1, 0);
+    if (pages == MAP_FAILED || mprotect(pages + page, page, PROT_READ | PROT_WRITE) != 0 ||
+        slice_count == sizeof slices / sizeof slices[0]) {
         perror("short_slices");
         exit(2);
     }
-    memset(pages, 0xee, page);
-    return pages + page - len;
+    memset(pages + page, 0xee, page);
+    uint8_t *bytes = at_the_end ? pages + 2 * page - len : pages + page;
+    slices[slice_count++] = (struct slice){pages + page, bytes, len};
+    return bytes;
 }
 
+/* A file, which no call may write. */
 static uint8_t *copy_at_the_edge(const uint8_t *bytes, size_t len)
 {
-    return memcpy(at_the_edge(len), bytes, len);
+    uint8_t *copy = memcpy(at_the_edge(len), bytes, len);
+    if (mprotect(slices[slice_count - 1].page, page_size(), PROT_READ) != 0) {
+        perror("short_slices");
+        exit(2);
+    }
+    return copy;
 }
 
 static bool filled(const void *memory, size_t len)
@@ -87,6 +115,11 @@ static void hand_in_short(void)
     EXPECT(refused(answer.refusal, NEKBROD_SHORT_STORE, 0) && same(answer.state, NOTHING));
     answer = nekbrod_hand_in_tree(NOTHING, tree, sizeof TREE, store, 13);
     EXPECT(refused(answer.refusal, NEKBROD_SHORT_STORE, 0) && same(answer.state, NOTHING) && filled(store, 13));
+    uint8_t *tree_store = at_the_edge(sizeof TREE), *sheet_store = at_the_edge(sizeof SHEET);
+    answer = nekbrod_hand_in_tree(NOTHING, tree, sizeof TREE, tree_store, sizeof TREE);
+    EXPECT(refused(answer.refusal, 0, 0) && memcmp(tree_store, TREE, sizeof TREE) == 0);
+    answer = nekbrod_hand_in_sheet(answer.state, sheet, sizeof SHEET, sheet_store, sizeof SHEET);
+    EXPECT(refused(answer.refusal, 0, 0) && same(answer.state, BOTH) && memcmp(sheet_store, SHEET, sizeof SHEET) == 0);
 }
 
 static void judge_short(void)
@@ -131,12 +164,26 @@ static void question_short(void)
     EXPECT(*lower == 0 && *upper == 2 && *marks == 0);
 }
 
+/* The filled bytes of each page before and after its slice. */
+static void look_beside(void)
+{
+    for (size_t i = 0; i < slice_count; i++) {
+        size_t before = (size_t)(slices[i].bytes - slices[i].page);
+        EXPECT(filled(slices[i].page, before));
+        EXPECT(filled(slices[i].bytes + slices[i].len, page_size() - before - slices[i].len));
+    }
+}
+
 int main(void)
 {
     EXPECT(nekbrod_version() == NEKBROD_VERSION);
-    hand_in_short();
-    judge_short();
-    question_short();
+    for (int turn = 0; turn < 2; turn++) {
+        at_the_end = turn == 0;
+        hand_in_short();
+        judge_short();
+        question_short();
+    }
+    look_beside();
     if (failures == 0) {
         printf("ok\n");
     }

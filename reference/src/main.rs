@@ -1,6 +1,7 @@
 //! The commands; `reference` alone lists them.
 
 use reference::calls::run_calls;
+use reference::cases::large_damage::LARGE_DAMAGES;
 use reference::cases::limits::LIMITS;
 use reference::cases::vector_list::vector_list;
 use reference::cases::{file_name, parse_kind, write_case, Kind};
@@ -20,9 +21,10 @@ reference each levels|calls < stream           the same for each framed case; th
 reference vectors stream                       the stored list of calls as bytes (src/vectors.rs says the format)
 reference vectors text < stream                what crates/vectors must print for such bytes
 reference cases SEED COUNT KIND DIR|-          cases as files in DIR, or framed to standard output
-    KIND: valid limits damaged changed mixed calls
+    KIND: valid limits damaged changed mixed calls large
 reference case SEED INDEX KIND                 one of these cases to standard output
 reference limits                               how many limits there are: so many cases of that kind have all
+reference large                                the same of the faults in large files
 reference compare SEED COUNT KIND PROGRAM [WORD...]
     such cases given to a level printer, one run each; status 1 where it prints anything else than `levels` here
 reference example NAME tree|sheet              a file of an example
@@ -84,6 +86,7 @@ fn run(words: &[&str]) -> Result<(), Failure> {
         ["cases", seed, count, kind, target] => write_cases(number(seed)?, number(count)?, any_kind(kind)?, target),
         ["case", seed, index, kind] => Ok(write_out(&write_case(any_kind(kind)?, number(seed)?, number(index)?))?),
         ["limits"] => Ok(write_out(format!("{}\n", LIMITS.len()).as_bytes())?),
+        ["large"] => Ok(write_out(format!("{LARGE_DAMAGES}\n").as_bytes())?),
         ["compare", seed, count, kind, ref program @ ..] if !program.is_empty() => {
             compare_cases(Cases { seed: number(seed)?, count: number(count)?, kind: any_kind(kind)? }, program)
         }
@@ -106,9 +109,9 @@ fn any_kind(word: &str) -> Result<Kind, Failure> {
     parse_kind(word).ok_or(Failure::Usage)
 }
 
-/// Lists of calls are no input of a level printer.
+/// Lists of calls are no input of a level printer, and no case shows no difference.
 fn compare_cases(cases: Cases, program: &[&str]) -> Result<(), Failure> {
-    if cases.kind == Kind::Calls {
+    if cases.kind == Kind::Calls || cases.count == 0 {
         return Err(Failure::Usage);
     }
     let outcome = compare(cases, program)?;

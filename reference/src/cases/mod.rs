@@ -9,6 +9,7 @@ pub mod tree_damage;
 pub mod sheet_damage;
 pub mod pair_damage;
 pub mod damaged;
+pub mod large_damage;
 pub mod changed;
 pub mod call_lists;
 pub mod vector_list;
@@ -29,15 +30,18 @@ pub enum Kind {
     Mixed,
     /// Lists of calls.
     Calls,
+    /// One known fault each in the largest trees and sheets, at the first, middle and last places.
+    Large,
 }
 
-pub const KINDS: [(&str, Kind); 6] = [
+pub const KINDS: [(&str, Kind); 7] = [
     ("valid", Kind::Valid),
     ("limits", Kind::Limits),
     ("damaged", Kind::Damaged),
     ("changed", Kind::Changed),
     ("mixed", Kind::Mixed),
     ("calls", Kind::Calls),
+    ("large", Kind::Large),
 ];
 
 pub fn parse_kind(word: &str) -> Option<Kind> {
@@ -58,6 +62,7 @@ pub fn write_case(kind: Kind, seed: u64, index: u64) -> Vec<u8> {
         Kind::Changed => changed::changed_input(random),
         Kind::Calls => call_lists::call_list(random).into_bytes(),
         Kind::Mixed => mixed_case(random, index),
+        Kind::Large => large_damage::large_case(random, index).bytes,
     }
 }
 

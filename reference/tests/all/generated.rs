@@ -3,6 +3,7 @@
 use reference::calls::run_calls;
 use reference::cases::case::{Case, Outcome};
 use reference::cases::damaged::{damaged_case, DAMAGES};
+use reference::cases::large_damage::{large_case, LARGE_DAMAGES};
 use reference::cases::limits::{limit_case, LIMITS};
 use reference::cases::valid::valid_case;
 use reference::cases::{write_case, Kind, KINDS};
@@ -39,6 +40,29 @@ fn limit_cases_meet_their_outcome() {
 fn damaged_cases_meet_their_outcome() {
     for index in 0..40 * DAMAGES as u64 {
         check(&damaged_case(&mut Random::for_case(7, index), index), index);
+    }
+}
+
+#[test]
+fn large_cases_meet_their_outcome() {
+    for index in 0..2 * LARGE_DAMAGES as u64 {
+        check(&large_case(&mut Random::for_case(9, index), index), index);
+    }
+}
+
+/// Numbers and places of the largest tree with 960 events and of its sheet, worked out from document 01: record i at
+/// 9 + 5 × i, link j at 5,129 + 2 × j, entry i at 26 + 17 × i, its term j one byte and j behind.
+#[test]
+fn large_cases_reach_the_last_places() {
+    let outcomes: Vec<Outcome> =
+        (0..LARGE_DAMAGES as u64).map(|index| large_case(&mut Random::for_case(9, index), index).outcome).collect();
+    let records = [(6, 9), (6, 2_569), (6, 5_124), (7, 9), (7, 2_409), (7, 4_804), (7, 4_809), (7, 5_124), (7, 5_129)];
+    let links = [(8, 5_129), (8, 6_151), (8, 7_173), (9, 5_131), (9, 6_153), (9, 7_173), (5, 7_174)];
+    let scores = [(7, 10), (7, 25), (5, 16_345), (5, 16_347)];
+    let entries = [(6, 26), (6, 8_186), (6, 16_329), (10, 26), (10, 8_186), (10, 16_329), (12, 26), (12, 16_329)];
+    let terms = [(11, 27), (11, 35), (11, 42), (11, 8_187), (11, 16_330), (11, 16_338), (11, 16_345)];
+    for (number, place) in [&records[..], &links[..], &scores[..], &entries[..], &terms[..]].concat() {
+        assert!(outcomes.contains(&Outcome::Refused(number, place)), "{number} at {place}");
     }
 }
 

@@ -1,4 +1,4 @@
-//! P1 to P12 of document 01.
+//! P1 to P12 of document 01, and the order and the roundings of a gate's steps.
 
 use crate::desk::{exact, holding, unmarked};
 use reference::describe::{same, Entry, Node};
@@ -82,4 +82,35 @@ fn p11_six_experts_at_the_bottom() {
 fn p12_six_experts_at_the_top() {
     let entries = [Entry::Opinions(vec![6, 5, 6, 4, 6, 4])];
     check(&[Node::Event], &SIX_SCORES, &entries, 2, unmarked(723_548_387), unmarked(723_548_388));
+}
+
+/// The events 5, 300000000 and 900000000 under one gate, in this order of its links.
+fn check_in_order(gate: fn(Vec<u16>) -> Node, links: [u16; 3], units: [u32; 3], lower: u32, upper: u32) {
+    let nodes = [Node::Event, Node::Event, Node::Event, gate(links.to_vec())];
+    check(&nodes, &[], &units.map(same), 1, unmarked(lower), unmarked(upper));
+}
+
+const THREE: [u32; 3] = [5, 300_000_000, 900_000_000];
+
+/// By hand, in units: 5 × 0.3 = 1.5, so 1 below and 2 above; then 1 × 0.9 = 0.9, so 0 below, and 2 × 0.9 = 1.8, so 2
+/// above. Exactly it is 5 × 0.3 × 0.9 = 1.35: one rounding at the end would give 1 below.
+#[test]
+fn each_step_of_an_and_is_rounded() {
+    check_in_order(Node::And, [0, 1, 2], THREE, 0, 2);
+}
+
+/// By hand: 300000000 × 0.9 = 270000000 exactly; then 5 × 0.27 = 1.35, so 1 below and 2 above. The events are the same,
+/// the links alone are in another order.
+#[test]
+fn an_and_goes_by_its_links() {
+    check_in_order(Node::And, [1, 2, 0], THREE, 1, 2);
+}
+
+/// An OR is the complement of the AND of the complements, which are the three above: 0 and 2 below 1, so the upper end
+/// is 1 and the lower end 1 less 2 units; in the other order 1 less 1 unit and 1 less 2.
+#[test]
+fn an_or_goes_by_its_links_and_rounds_each_step() {
+    let complements = THREE.map(|units| U - units);
+    check_in_order(Node::Or, [0, 1, 2], complements, U - 2, U);
+    check_in_order(Node::Or, [1, 2, 0], complements, U - 2, U - 1);
 }
