@@ -181,24 +181,22 @@ class Report:
 
 
 def crates_of(name, program):
-    """The crates that a program rests on, and itself, each after those that it rests on; in the order that rt takes."""
+    """The crates that a program rests on, and itself, each after those that it rests on, as rt takes them."""
     rests_on = {}
-    with contextlib.suppress(OSError), open(name, encoding="utf-8") as file:
+    with contextlib.suppress(OSError), open(name, encoding="utf-8", errors="replace") as file:
         for line in file:
             crate, colon, others = line.split("#")[0].partition(":")
             if colon:
                 rests_on[crate.strip()] = others.split()
-
-    def height(crate):
-        return 1 + max((height(other) for other in rests_on[crate] if other in rests_on), default=0)
-
-    found = []
-
-    def visit(crate):
-        if crate in rests_on and crate not in found:
-            for other in rests_on[crate]:
-                visit(other)
-            found.append(crate)
-
-    visit(program)
-    return sorted(found, key=height)
+    wanted, to_see = [], [program]
+    while to_see:
+        crate = to_see.pop()
+        if crate in rests_on and crate not in wanted:
+            wanted.append(crate)
+            to_see += rests_on[crate]
+    ordered, ready = [], [None]
+    while ready:
+        left = [crate for crate in rests_on if crate in wanted and crate not in ordered]
+        ready = [crate for crate in left if not any(other in left for other in rests_on[crate])]
+        ordered += ready
+    return ordered

@@ -45,6 +45,9 @@ def main(home, words):
     except Stop as stop:
         say(stop.why)
         return stop.status
+    except OSError as error:
+        say(error)
+        return 3
 
 
 def run(home, words):

@@ -34,7 +34,7 @@ def read_rows(page):
     """The page's table: for each number its rows."""
     rows = collections.defaultdict(list)
     try:
-        with open(page, encoding="utf-8") as file:
+        with open(page, encoding="utf-8", errors="replace") as file:
             for line in file:
                 cells = [cell.strip().replace("`", "") for cell in line.strip().strip("|").split("|")]
                 if line.startswith("|") and len(cells) == 5 and cells[0].isdigit():

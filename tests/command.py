@@ -62,7 +62,7 @@ def hold(name, right, run=None):
 
 
 def usual_signals():
-    for number in (signal.SIGINT, signal.SIGTERM, signal.SIGHUP):
+    for number in (signal.SIGINT, signal.SIGTERM, signal.SIGHUP, signal.SIGQUIT):
         signal.signal(number, signal.SIG_DFL)
 
 
@@ -530,6 +530,9 @@ def building(copy):
     os.remove(copy.program)
     ran = copy.run(*ROAD, "2")
     printed("a program that was removed", ran, ROAD_LEVELS)
+    write(os.path.join(copy.home, "crates.txt"), "levels: printer\nprinter: levels\n")
+    printed("crates that rest on each other", copy.run(*ROAD, "2"), ROAD_LEVELS)
+    write(os.path.join(copy.home, "crates.txt"), CRATES)
     copy.change("#!/bin/sh\necho tree of another source\n")
     ran = copy.run(*ROAD, "2")
     printed("another source with an old date", ran, b"tree of another source\n")
