@@ -134,10 +134,34 @@ pieces() {
     hold "an input in two pieces: levels" cmp -s "$work/out" "$examples/road_trip/levels-2.txt"
 }
 
+# A text that cannot be written is told, in one line on standard error.
+told() { # NAME
+    : >"$work/out"
+    echo "levels: the text could not be written" >"$work/due"
+    hold "$1" cmp -s "$work/err" "$work/due"
+}
+
+unwritten() {
+    road_trip 2 >"$in"
+    "$levels" <"$in" >&- 2>"$work/err"
+    status=$?
+    told "a closed output"
+    if [ -c /dev/full ]; then
+        "$levels" <"$in" >/dev/full 2>"$work/err"
+        status=$?
+        told "a full disk"
+    else
+        echo "skipped: a full disk (there is no /dev/full)"
+    fi
+    run "$levels" <"$in"
+    hold "an output that takes it all: nothing told" [ ! -s "$work/err" ]
+}
+
 answers
 short_inputs
 wrong_sums
 longest_files
 pairs_that_do_not_match
 pieces
+unwritten
 finish

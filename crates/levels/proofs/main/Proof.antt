@@ -34,6 +34,12 @@ slice-aggregate-write-all c = search (needs, complete-counted)
 write-all-requires : tie.Need-write-all-requires
 write-all-requires c κs = search needs
 
+slice-aggregate-write-all-2 : tie.Need-slice-aggregate-write-all-2
+slice-aggregate-write-all-2 c = search needs
+
+write-all-requires-2 : tie.Need-write-all-requires-2
+write-all-requires-2 c κs = search needs
+
 enum-told : tie.Need-enum-told
 enum-told c = search needs
 
@@ -42,6 +48,9 @@ returns c = search needs
 
 returns-2 : tie.Need-returns-2
 returns-2 c = search needs
+
+returns-3 : tie.Need-returns-3
+returns-3 c = search needs
 
 pub main-spec : {M : Type 1} → statement M
 main-spec =
@@ -57,6 +66,9 @@ main-spec =
     array-share-prefix-text
     slice-aggregate-write-all
     write-all-requires
+    slice-aggregate-write-all-2
+    write-all-requires-2
     enum-told
     returns
-    returns-2)
+    returns-2
+    returns-3)
