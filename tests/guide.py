@@ -1,5 +1,5 @@
 #!/usr/bin/env python3
-"""Runs every command of docs/GUIDE.md, with the program that the page gives, and compares what is printed with the page.
+"""Runs every command of docs/GUIDE.md, with the program that it gives, and compares what is printed with the page.
 
 Prints the commands that print something else and exits 1, or prints how many were run.
 """
@@ -35,7 +35,8 @@ def main():
         Path(folder, "make_standby.py").write_text(program, encoding="utf-8")
         for words, text in commands(page):
             words = [str(ROOT / "nekbrod") if word == "./nekbrod" else word for word in words]
-            found = subprocess.run(words, cwd=folder, stdout=subprocess.PIPE, stderr=subprocess.DEVNULL, text=True).stdout
+            run = subprocess.run(words, cwd=folder, stdout=subprocess.PIPE, stderr=subprocess.DEVNULL, text=True)
+            found = run.stdout
             ran += 1
             if found != text:
                 failed += 1

@@ -1,7 +1,7 @@
 /*
- * What the calls answer where slices are null, empty or too short, and that nothing beside a slice is touched. All of it
- * is done twice: with slices that end where unmapped memory begins, and with slices that begin where it ends. The rest
- * of their page is filled and looked at in the end; files are on pages that can't be written. And that header and
+ * What the calls answer where slices are null, empty or too short, and that nothing beside a slice is touched. All of
+ * it is done twice: with slices that end where unmapped memory begins, and with slices that begin where it ends. The
+ * rest of their page is filled and looked at in the end; files are on pages that can't be written. And that header and
  * library are of one version. Prints ok, or each line that fails.
  *
  * Build at the repository's root, after rt staticlib capi:

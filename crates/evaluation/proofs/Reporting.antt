@@ -36,7 +36,8 @@ module _ {tree sheet : List ℕ} {nodes k n : ℕ} {s₀ : Slices} (asked : Eval
       record {
         well-formed = asked .pair .tree-well-formed;
         long = rw cut
-            (same-long (turns-length (events-local cuts tree) nodes s₀) (le-of-eq (sym (asked .nodes-is))) (asked .long));
+            (same-long (turns-length (events-local cuts tree) nodes s₀) (le-of-eq (sym (asked .nodes-is)))
+            (asked .long));
         in-units = λ w i e l r.
             rw (
               cut,

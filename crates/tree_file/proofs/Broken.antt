@@ -1,7 +1,7 @@
 -- Judging a tree file finds the first rule that it breaks in document 01's order, and nothing where none is broken: a
 -- file is refused by the first rule that it breaks and by no other, and an accepted one breaks none.
 use Prim.Native.Nat.{ℕ}
-use mathlib.Core.Path.{_≡_, refl, ap, subst}
+use mathlib.Core.Path.{_≡_, refl, subst}
 use mathlib.Core.List.{List}
 use Rattle.refusals.specs.Order.{First, Finds}
 use Rattle.refusals.specs.declared.refusal.Refusal.{Refusal}

@@ -1,6 +1,6 @@
 -- What the theory of tables says of a well-formed file: its tree opens node by node, and the root has all basic events.
 use Prim.Native.Nat.{ℕ, _-_, _<_}
-use mathlib.Core.Path.{_≡_, refl, ap, subst}
+use mathlib.Core.Path.{_≡_}
 use mathlib.Core.Logic.{_↔_}
 use mathlib.Core.List.{List}
 use lib.Dec.{T}

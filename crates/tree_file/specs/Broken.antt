@@ -15,7 +15,7 @@ use Rattle.refusals.specs.declared.refusal.Refusal.{Refusal}
 use Rattle.refusals.specs.declared.rule.Rule.the-variants.{TooShort, WrongLetters, WrongVersion, WrongCount}
 use Rattle.refusals.specs.declared.rule.Rule.the-variants.{WrongLength, UnknownKind, WrongField, NotBelow, LinkedBefore}
 use Rattle.tree_file.specs.Format.{event-kind, field-a, field-b, has-letters, header-length, kind, letters-place}
-use Rattle.tree_file.specs.Format.{link, link-at, link-count, links-at, max-inputs, max-nodes, node-count}
+use Rattle.tree_file.specs.Format.{link, link-at, link-count, max-inputs, max-nodes, node-count}
 use Rattle.tree_file.specs.Format.{nodes-place, or-kind, record-at, version, version-place, version-read}
 use Rattle.tree_file.specs.Tallies.{events-before, inputs-before}
 use Rattle.tree_file.specs.WellFormed.{WellFormedHeader}

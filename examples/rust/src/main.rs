@@ -1,8 +1,8 @@
 //! Prints one level of a tree file and an opinion sheet: level TREE SHEET K N
 //!
-//! The line is that of the level printer: k, the lower end in billionths and its mark, the upper end and its mark, where
-//! = is exact and ~ is not. A refusal is printed with its number and place. Exit status: 0 answered, 1 refused, 2 the
-//! arguments are wrong or a file can't be read, 3 the line could not be written.
+//! The line is that of the level printer: k, the lower end in billionths and its mark, the upper end and its mark,
+//! where = is exact and ~ is not. A refusal is printed with its number and place. Exit status: 0 answered, 1 refused,
+//! 2 the arguments are wrong or a file can't be read, 3 the line could not be written.
 //!
 //! Run at the repository's root, after `rt staticlib capi`:
 //!     cargo run --release --offline --manifest-path examples/rust/Cargo.toml -- TREE SHEET K N

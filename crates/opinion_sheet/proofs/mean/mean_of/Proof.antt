@@ -1,5 +1,5 @@
 -- `opinion_sheet::mean::mean_of` meets its contract. The loop's invariant: the sums are those over the experts passed.
-use Prim.Native.Nat.{ℕ, _+_, _-_, _*_, _≤_, _<_}
+use Prim.Native.Nat.{ℕ, _+_, _-_, _≤_, _<_}
 use mathlib.Core.Path.{_≡_, _∙_, ap}
 use mathlib.Core.Logic.{⊎-elim}
 use denote.Ref.{now}
