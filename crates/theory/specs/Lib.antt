@@ -15,5 +15,7 @@ pub mod Rounding
 pub mod Promise
 pub mod NodeTable
 pub mod GateFold
+pub mod MinimalCutSets
+pub mod CutSetFamily
 pub mod Unit
 pub mod Examples
