@@ -38,6 +38,8 @@ pub mod Counting
 pub mod DistinctEvents
 pub mod OneRoot
 pub mod GateFold
+pub mod NodeFamily
+pub mod CutSetCount
 pub mod LinksBelow
 pub mod NodePromised
 -- The table of examples.
