@@ -1,5 +1,5 @@
--- What follows from specs/, in the order of the argument. The main theorems are in `ReportedEnds`, and on tables of
--- nodes in `NodePromised`.
+-- What follows from specs/, in the order of the argument. The main theorems are in `ReportedEnds`, on tables of
+-- nodes in `NodePromised`, and on minimal cut sets in `CutSetsEnumerated`.
 -- Lists and fractions.
 pub mod Missing
 pub mod Sums
@@ -38,9 +38,13 @@ pub mod Counting
 pub mod DistinctEvents
 pub mod OneRoot
 pub mod GateFold
-pub mod NodeFamily
-pub mod CutSetCount
 pub mod LinksBelow
 pub mod NodePromised
+-- Minimal cut sets: those of a gate from those of its inputs (`family-enumerates`), and how many there are.
+pub mod MinimalSets
+pub mod MinimalFamilies
+pub mod CutSetsEnumerated
+pub mod CutSetCount
+pub mod NodeFamily
 -- The table of examples.
 pub mod ExamplesHold
