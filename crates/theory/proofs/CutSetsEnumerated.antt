@@ -1,19 +1,19 @@
 -- The family of a tree without repeated events has every minimal cut set of it once, and no other set.
 use Prim.Native.Nat.{ℕ, _<_}
 use mathlib.Core.Path.{_≡_, refl, sym, ap, ap₂, _∙_}
-use mathlib.Core.Bool.{Bool, true, false, not, _&&_, _||_, or-false}
+use mathlib.Core.Bool.{Bool, true, false, _||_, or-false}
 use mathlib.Core.List.{List, [], _∷_, _++_}
 use native.Mathlib.Omega.{arith}
 use lib.Dec.{T, T-not, not-T, eqb, eqb→eq, eqb-refl, lit<}
 use Rattle.theory.specs.FaultTree.{GateKind, all, any, Tree, Inputs, basic, gate, only, more, events, all-events}
 use Rattle.theory.specs.FaultTree.{contains}
 use Rattle.theory.specs.Unreliability.{EventSet, empty-set, with-event, verdict, fails, which-fail}
-use Rattle.theory.specs.MinimalCutSets.{Strictly-within, Same-set, own-events, Minimal-cut-set, Family, Enumerates}
-use Rattle.theory.specs.CutSetFamily.{union, unions, alternatives, gate-family, family, families}
+use Rattle.theory.specs.MinimalCutSets.{Strictly-within, Same-set, Minimal-cut-set, Family, Enumerates}
+use Rattle.theory.specs.CutSetFamily.{unions, alternatives, gate-family, family, families}
 use borrow.Author.Tests.{eqb-true}
-use Rattle.theory.proofs.Missing.{eqb-comm, either-of-or, or-right}
+use Rattle.theory.proofs.Missing.{eqb-comm, either-of-or, or-right, or-left, true-of, false-of}
 use Rattle.theory.proofs.Distinct.{Distinct, Apart, contains-append, contains-each-once, distinct-append}
-use Rattle.theory.proofs.MinimalSets.{Depends, Apart-sets, Minimal, minimal-same, or-left, true-of, false-of}
+use Rattle.theory.proofs.MinimalSets.{Depends, Apart-sets, Minimal, minimal-same}
 use Rattle.theory.proofs.MinimalFamilies.{Lists, and-lists, or-lists}
 
 -- whether a list of events has an event

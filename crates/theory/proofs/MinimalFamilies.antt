@@ -2,33 +2,25 @@
 use Prim.Native.Nat.{ℕ, zero, suc, _+_, _-_, _*_, _/_, _%_, _≤_, _<_}
 use mathlib.Core.Path.{_≡_, refl, sym, ap, ap₂, _∙_}
 use mathlib.Core.Bool.{Bool, true, false, cond, _&&_, _||_}
-use native.Mathlib.Nat.{add-mul-mod-self-left, add-mul-div-left, div-add-mod, div-eq-of-lt, div-lt-iff-lt-mul, mod-eq-of-lt}
-use native.Mathlib.Nat.{mod-lt, mul-le-mul, mul-comm, le-refl, zero-mul, zero-add, zero-lt-suc}
+use native.Mathlib.Nat.{add-mul-mod-self-left, add-mul-div-left, div-add-mod, div-eq-of-lt, div-lt-iff-lt-mul}
+use native.Mathlib.Nat.{mod-eq-of-lt, mod-lt, mul-le-mul, mul-comm, le-refl, zero-mul, zero-add, zero-lt-suc}
 use native.Mathlib.Omega.{arith}
-use native.Mathlib.Decide.{decLt}
 use mathlib.Core.Logic.{_⊎_, inl, inr}
 use lib.Dec.{T, ltb}
 use borrow.Author.Tests.{lt-ltb, le-ltb}
 use Rattle.theory.specs.Unreliability.{EventSet, empty-set}
-use Rattle.theory.specs.MinimalCutSets.{Within, Strictly-within, Same-set, Family}
+use Rattle.theory.specs.MinimalCutSets.{Within, Same-set, Family}
 use Rattle.theory.specs.CutSetFamily.{union}
-use Rattle.theory.proofs.Missing.{both-of-and, either-of-or, or-right}
-use Rattle.theory.proofs.MinimalSets.{Depends, Apart-sets, Minimal, kept, and-of-both, or-left, and-part, and-whole}
-use Rattle.theory.proofs.MinimalSets.{minimal-of-weaker, or-whole, or-apart}
+use Rattle.theory.proofs.Missing.{both-of-and, either-of-or, or-right, and-of-both, or-left, true-of}
+use Rattle.theory.proofs.Missing.{below-or-not}
+use Rattle.theory.proofs.MinimalSets.{Depends, Apart-sets, Minimal, kept, minimal-of-weaker, and-part, and-whole}
+use Rattle.theory.proofs.MinimalSets.{or-whole, or-apart}
 
 -- `Enumerates` of specs/, for any test of sets
 pub record Lists (own : EventSet) (f : EventSet → Bool) (fam : Family) : Type 0 where
   pub each : (r : ℕ) → r < fam .count → Minimal own f (fam .set r)
   pub every : (s : EventSet) → Minimal own f s → (r : ℕ) × (r < fam .count) × Same-set (fam .set r) s
   pub once : (q r : ℕ) → q < fam .count → r < fam .count → Same-set (fam .set q) (fam .set r) → q ≡ r
-
--- a number is below another or not
-below-or-not : (r c : ℕ) → (r < c) ⊎ (c ≤ r)
-below-or-not r c = go (decLt r c)
-  where
-    go : Dec (r < c) → (r < c) ⊎ (c ≤ r)
-    go (yes h) = inl h
-    go (no h) = inr (omega arith)
 
 -- a number below a product, taken apart, and put together again
 product-rest : (r a b : ℕ) → r < a * b → (r % a < a) × (r / a < b)
@@ -64,11 +56,7 @@ union-second : (x y k : Bool) → (T y → T k) → (T x → T k → ⊥) → (x
 union-second true true k h n = absurd (n tt (h tt))
 union-second true false true h n = absurd (n tt tt)
 union-second true false false h n = refl
-union-second false true k h n = go k (h tt)
-  where
-    go : (b : Bool) → T b → b ≡ true
-    go true t = refl
-    go false t = absurd t
+union-second false true k h n = true-of k (h tt)
 union-second false false k h n = refl
 
 module _ (a b : EventSet) (apart : Apart-sets a b) (s v s′ v′ : EventSet) (in-a : Within s a) (in-b : Within v b)
@@ -122,8 +110,12 @@ module _ (f g : EventSet → Bool) (a b : EventSet) (df : Depends f a) (dg : Dep
               → (q : ℕ) × (q < G .count) × Same-set (G .set q) (kept b s)
               → (r : ℕ) × (r < F .count * G .count) × Same-set (product-family .set r) s
           go (p, h, same-a) (q, k, same-b) =
-              let (l, m-p, d-q) = product-index p q (F .count) (G .count) h k in
-              (p + F .count * q, l, λ e. rw (m-p, d-q, same-a e, same-b e) (parts-union (s e) (a e) (b e) (m .inside e)))
+              let (l, m-p, d-q) = product-index p q (F .count) (G .count) h k in (
+                p + F .count * q,
+                l,
+                λ e. rw (m-p, d-q, same-a e, same-b e)
+                    (parts-union (s e) (a e) (b e) (m .inside e)),
+              )
 
       once : (q r : ℕ) → q < F .count * G .count → r < F .count * G .count
           → Same-set (product-family .set q) (product-family .set r) → q ≡ r
@@ -187,7 +179,8 @@ module _ (f g : EventSet → Bool) (a b : EventSet) (df : Depends f a) (dg : Dep
           where
             go : (r < F .count) ⊎ (F .count ≤ r) → Minimal (union a b) either (sum-family .set r)
             go (inl h) = rw (sum-first r h) (from-first (F .set r) (lf .each r h))
-            go (inr h) = rw (sum-second r h) (from-second (G .set (r - F .count)) (lg .each (r - F .count) (omega arith)))
+            go (inr h) = rw (sum-second r h)
+                (from-second (G .set (r - F .count)) (lg .each (r - F .count) (omega arith)))
 
         every : (s : EventSet) → Minimal (union a b) either s
             → (r : ℕ) × (r < F .count + G .count) × Same-set (sum-family .set r) s
@@ -201,7 +194,8 @@ module _ (f g : EventSet → Bool) (a b : EventSet) (df : Depends f a) (dg : Dep
                 go (r, l, same) = (r, omega arith, rw (sum-first r l) same)
 
             by-second : T (g s) → (r : ℕ) × (r < F .count + G .count) × Same-set (sum-family .set r) s
-            by-second t = go (lg .every s (minimal-of-weaker g b dg s t (λ u w p. m .least u w (or-right (f u) (g u) p))))
+            by-second t =
+                go (lg .every s (minimal-of-weaker g b dg s t (λ u w p. m .least u w (or-right (f u) (g u) p))))
               where
                 go : (r : ℕ) × (r < G .count) × Same-set (G .set r) s
                     → (r : ℕ) × (r < F .count + G .count) × Same-set (sum-family .set r) s

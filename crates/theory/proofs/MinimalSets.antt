@@ -1,49 +1,17 @@
 -- Minimal sets of a test on sets of events, and those of a conjunction and of a disjunction of two tests that depend on
 -- events apart from each other.
 use Prim.Native.Nat.{ℕ}
-use mathlib.Core.Path.{_≡_, refl, sym, _∙_}
+use mathlib.Core.Path.{_≡_, refl, _∙_}
 use mathlib.Core.Bool.{Bool, true, false, not, _&&_, _||_}
 use mathlib.Core.Logic.{_⊎_, inl, inr, ⊎-elim}
 use lib.Dec.{T, T-not, not-T}
 use Rattle.theory.specs.Unreliability.{EventSet, empty-set}
 use Rattle.theory.specs.MinimalCutSets.{Within, Strictly-within, Same-set}
 use Rattle.theory.specs.CutSetFamily.{union}
-use Rattle.theory.proofs.Missing.{both-of-and, either-of-or, false-of-not, or-right}
+use Rattle.theory.proofs.Missing.{both-of-and, either-of-or, or-right, and-of-both, or-left, true-of, false-of}
+use Rattle.theory.proofs.Missing.{or-first, or-second, passes-or-not}
 
--- a passed conjunction, from its tests
-pub and-of-both : (a b : Bool) → T a → T b → T (a && b)
-and-of-both true b t u = u
-and-of-both false b t u = absurd t
-
--- a disjunction passes where its first test does
-pub or-left : (a b : Bool) → T a → T (a || b)
-or-left true b t = tt
-or-left false b t = absurd t
-
--- a test that passes is true
-pub true-of : (b : Bool) → T b → b ≡ true
-true-of true t = refl
-true-of false t = absurd t
-
--- a test that can't pass is false
-pub false-of : (b : Bool) → (T b → ⊥) → b ≡ false
-false-of b h = false-of-not b (not-T b h)
-
--- a disjunction is the test that can pass alone
-pub or-first : (a b : Bool) → (T b → ⊥) → a || b ≡ a
-or-first true b h = refl
-or-first false b h = false-of b h
-
-pub or-second : (a b : Bool) → (T a → ⊥) → a || b ≡ b
-or-second true b h = absurd (h tt)
-or-second false b h = refl
-
--- whether a test passes
-pub passes-or-not : (b : Bool) → T b ⊎ T (not b)
-passes-or-not true = inl tt
-passes-or-not false = inr tt
-
--- a test of sets turns on the listed events alone
+-- a test of sets turns on its own events alone
 abbrev pub Depends : (EventSet → Bool) → EventSet → Type 0
 Depends f own = (s u : EventSet) → ((e : ℕ) → T (own e) → s e ≡ u e) → f s ≡ f u
 

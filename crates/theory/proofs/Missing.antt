@@ -1,10 +1,12 @@
 -- What the kit's library should have had: tests joined by && and ||, and laws of plain numbers.
-use Prim.Native.Nat.{ℕ, zero, suc, _+_, _-_, _*_, _<_}
+use Prim.Native.Nat.{ℕ, zero, suc, _+_, _-_, _*_, _≤_, _<_}
 use native.Mathlib.Nat.{zero-mul, suc-mul, mul-comm, mul-sub}
 use native.Mathlib.Omega.{arith}
+use native.Mathlib.Decide.{decLt}
 use mathlib.Core.Path.{_≡_, refl, ap₂, sym, _∙_}
 use mathlib.Core.Bool.{Bool, true, false, not, _&&_, _||_, false≢true}
-use lib.Dec.{T, eqb, eqb·suc-zero}
+use mathlib.Core.Logic.{_⊎_, inl, inr}
+use lib.Dec.{T, not-T, eqb, eqb·suc-zero}
 use borrow.Author.Tests.{eqb-true, eqb-false, eq-eqb, ne-eqb}
 
 -- a test that fails is false
@@ -66,6 +68,39 @@ pub not-and : (a b : Bool) → not (not a && b) ≡ a || not b
 not-and true b = refl
 not-and false b = refl
 
+-- a passed conjunction, from its tests
+pub and-of-both : (a b : Bool) → T a → T b → T (a && b)
+and-of-both true b t u = u
+and-of-both false b t u = absurd t
+
+-- a disjunction passes where its first test does
+pub or-left : (a b : Bool) → T a → T (a || b)
+or-left true b t = tt
+or-left false b t = absurd t
+
+-- a test that passes is true
+pub true-of : (b : Bool) → T b → b ≡ true
+true-of true t = refl
+true-of false t = absurd t
+
+-- a test that can't pass is false
+pub false-of : (b : Bool) → (T b → ⊥) → b ≡ false
+false-of b h = false-of-not b (not-T b h)
+
+-- a disjunction is the test that can pass alone
+pub or-first : (a b : Bool) → (T b → ⊥) → a || b ≡ a
+or-first true b h = refl
+or-first false b h = false-of b h
+
+pub or-second : (a b : Bool) → (T a → ⊥) → a || b ≡ b
+or-second true b h = absurd (h tt)
+or-second false b h = refl
+
+-- whether a test passes
+pub passes-or-not : (b : Bool) → T b ⊎ T (not b)
+passes-or-not true = inl tt
+passes-or-not false = inr tt
+
 -- a number equals itself
 pub eqb-same : (a : ℕ) → eqb a a ≡ true
 eqb-same a = eq-eqb a a refl
@@ -96,3 +131,11 @@ eqb-zero-times (suc n) k p = ne-eqb (suc n * k) 0 (λ e. omega (arith, suc-mul n
 -- a difference times a factor
 pub sub-mul : (a b c : ℕ) → (a - b) * c ≡ a * c - b * c
 sub-mul a b c = mul-comm (a - b) c ∙ mul-sub c a b ∙ ap₂ _-_ (mul-comm c a) (mul-comm c b)
+
+-- a number is below another or not
+pub below-or-not : (r c : ℕ) → (r < c) ⊎ (c ≤ r)
+below-or-not r c = go (decLt r c)
+  where
+    go : Dec (r < c) → (r < c) ⊎ (c ≤ r)
+    go (yes h) = inl h
+    go (no h) = inr (omega arith)

@@ -11,6 +11,7 @@ use Rattle.theory.specs.Unreliability.{EventSet, cut-sets, weight, unrel
 use Rattle.theory.specs.BottomUp.{bottom-up}
 use Rattle.theory.specs.Trapezoid.{Trapezoid, cut}
 use Rattle.theory.specs.Opinion.{says, low, fairly-low, medium, fairly-high, high, mean}
+use Rattle.theory.specs.CutSetFamily.{family}
 use Rattle.theory.specs.Unit.{billion}
 use Rattle.theory.specs.Rounding.{Direction, End, reported}
 
@@ -135,3 +136,9 @@ pub record Examples-4-5 : Type 0 where
   pub unreliability-is : unreliability road-trip-probability road-trip ≡ in-units 1_000_000_000 368_000_000
   -- so it is by the bottom-up method, 0.8 · (1 − (1 − 0.1) · (1 − 0.4))
   pub bottom-up-is : bottom-up road-trip-probability road-trip ≡ in-units 1000 368
+
+-- The road trip's minimal cut sets as 004 would write them: 110 and 101, since 111 has both inside it.
+pub record Road-trip-minimal : Type 0 where
+  pub count-is : family road-trip .count ≡ 2
+  pub sets-are : map (λ r. digits (family road-trip .set r)) (0 ∷ 1 ∷ [])
+      ≡ (1 ∷ 1 ∷ 0 ∷ []) ∷ (1 ∷ 0 ∷ 1 ∷ []) ∷ []

@@ -1,5 +1,5 @@
--- Minimal cut sets, by their meaning (003, Definition 3; 02, request 1): a set of events at or beneath a node under which
--- it fails, and under no set strictly inside it does.
+-- Minimal cut sets, by their meaning (003, Definition 3; 02, request 1): a set of events at or beneath a node under
+-- which it fails, and under no set strictly inside it does.
 use Prim.Native.Nat.{ℕ, _<_}
 use mathlib.Core.Path.{_≡_}
 use mathlib.Core.Bool.{not}
