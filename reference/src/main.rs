@@ -4,7 +4,7 @@ use reference::calls::run_calls;
 use reference::cases::large_damage::LARGE_DAMAGES;
 use reference::cases::limits::LIMITS;
 use reference::cases::vector_list::vector_list;
-use reference::cases::{file_name, parse_kind, write_case, Kind};
+use reference::cases::{file_name, is_list, parse_kind, write_case, Kind};
 use reference::compare::{compare, report, Cases};
 use reference::examples::example;
 use reference::framing::{frame, split_frames};
@@ -21,7 +21,7 @@ reference each levels|calls < stream           the same for each framed case; th
 reference vectors stream                       the stored list of calls as bytes (src/vectors.rs says the format)
 reference vectors text < stream                what crates/vectors must print for such bytes
 reference cases SEED COUNT KIND DIR|-          cases as files in DIR, or framed to standard output
-    KIND: valid limits damaged changed mixed calls large
+    KIND: valid limits damaged changed mixed calls sets large
 reference case SEED INDEX KIND                 one of these cases to standard output
 reference limits                               how many limits there are: so many cases of that kind have all
 reference large                                the same of the faults in large files
@@ -111,7 +111,7 @@ fn any_kind(word: &str) -> Result<Kind, Failure> {
 
 /// Lists of calls are no input of a level printer, and no case shows no difference.
 fn compare_cases(cases: Cases, program: &[&str]) -> Result<(), Failure> {
-    if cases.kind == Kind::Calls || cases.count == 0 {
+    if is_list(cases.kind) || cases.count == 0 {
         return Err(Failure::Usage);
     }
     let outcome = compare(cases, program)?;

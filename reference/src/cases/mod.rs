@@ -4,6 +4,7 @@ pub mod case;
 pub mod trees;
 pub mod sheets;
 pub mod valid;
+pub mod set_trees;
 pub mod limits;
 pub mod tree_damage;
 pub mod sheet_damage;
@@ -30,17 +31,20 @@ pub enum Kind {
     Mixed,
     /// Lists of calls.
     Calls,
+    /// Lists of calls, most of them about minimal cut sets.
+    Sets,
     /// One known fault each in the largest trees and sheets, at the first, middle and last places.
     Large,
 }
 
-pub const KINDS: [(&str, Kind); 7] = [
+pub const KINDS: [(&str, Kind); 8] = [
     ("valid", Kind::Valid),
     ("limits", Kind::Limits),
     ("damaged", Kind::Damaged),
     ("changed", Kind::Changed),
     ("mixed", Kind::Mixed),
     ("calls", Kind::Calls),
+    ("sets", Kind::Sets),
     ("large", Kind::Large),
 ];
 
@@ -61,6 +65,7 @@ pub fn write_case(kind: Kind, seed: u64, index: u64) -> Vec<u8> {
         Kind::Damaged => damaged::damaged_case(random, index).bytes,
         Kind::Changed => changed::changed_input(random),
         Kind::Calls => call_lists::call_list(random).into_bytes(),
+        Kind::Sets => call_lists::set_list(random).into_bytes(),
         Kind::Mixed => mixed_case(random, index),
         Kind::Large => large_damage::large_case(random, index).bytes,
     }
@@ -77,7 +82,12 @@ fn mixed_case(random: &mut Random, index: u64) -> Vec<u8> {
     }
 }
 
+/// Whether the cases are lists of calls, and no inputs of the level printer.
+pub fn is_list(kind: Kind) -> bool {
+    matches!(kind, Kind::Calls | Kind::Sets)
+}
+
 pub fn file_name(kind: Kind, index: u64) -> String {
-    let ending = if kind == Kind::Calls { "calls" } else { "input" };
+    let ending = if is_list(kind) { "calls" } else { "input" };
     format!("{index:06}.{ending}")
 }

@@ -12,6 +12,7 @@ mod call_refusals;
 mod calls_answered;
 mod limits;
 mod cut_sets;
+mod minimal_cut_sets;
 mod enclosure;
 mod printer;
 mod call_text;
