@@ -36,7 +36,7 @@ const MOST_SETS: u64 = 4_000;
 
 /// Counts and lists of minimal cut sets, with a sheet or with none.
 pub fn set_list(random: &mut Random) -> String {
-    let trees = [small_tree(random, 12), set_tree(random)];
+    let trees = [set_tree(random), small_tree(random, 12)];
     let pairs = trees.map(|nodes| any_pair(random, nodes));
     let mut writer = Writer { random, pairs, tree_store: 0, sheet_store: 0, list: String::new() };
     if writer.random.percent(80) {

@@ -595,7 +595,7 @@ impl List {
             let nodes = small_tree(random, 40);
             self.sets_of(nodes);
         }
-        for index in 0..24 {
+        for index in 0..16 {
             let list = set_list(&mut Random::for_case(SEED + 6, index));
             self.fresh(0, 0);
             self.calls.extend(list.lines().map(|line| parse_call(line).expect("a line of a list")));
