@@ -50,8 +50,8 @@ typedef struct nekbrod_state {
 } nekbrod_state;
 
 /*
- * The numbers of the refusals, those of documents 01 and 02, each with what it says and, after the colon, the place that
- * comes with it. An offset is in bytes from 0 in the file handed in.
+ * The numbers of the refusals, those of documents 01 and 02, each with what it says and, after the colon, the place
+ * that comes with it. An offset is in bytes from 0 in the file handed in.
  */
 /* Of a file handed in. */
 #define NEKBROD_TOO_SHORT 1u     /* the file is shorter than its header (tree 9, sheet 26): the file's length */
@@ -189,8 +189,8 @@ nekbrod_reply nekbrod_question(nekbrod_state state, const uint8_t *tree_store, s
 nekbrod_set_count nekbrod_count_cut_sets(nekbrod_state state, const uint8_t *tree_store, size_t tree_store_len);
 
 /*
- * Lists the minimal cut sets of the held tree. Judges and reads as nekbrod_count_cut_sets does, refused as it is, and by
- * 27 after all else, before anything is written.
+ * Lists the minimal cut sets of the held tree. Judges and reads as nekbrod_count_cut_sets does, refused as it is, and
+ * by 27 after all else, before anything is written.
  * Answered, sets[0 .. listing.count) holds every minimal cut set once and no other set, each as a number with bit i set
  * exactly for basic event i; in which order is left open. Places from listing.count on stay.
  */

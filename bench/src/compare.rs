@@ -126,7 +126,8 @@ fn held_pair(pair_seed: u64) -> Vec<Call> {
 }
 
 /// The input's files, whatever their lengths, handed in over a held pair, its levels, the outermost, the middle and the
-/// first ones, and its cut sets. Where a file is refused, the first level meets what is held then and the others the pair again.
+/// first ones, and its cut sets. Where a file is refused, the first level meets what is held then and all else the pair
+/// again.
 fn input_calls(input: &[u8], pair_seed: u64) -> Vec<Call> {
     let field = |place: usize| match input.get(place..place + 2) {
         Some(bytes) => u16::from_le_bytes([bytes[0], bytes[1]]) as usize,

@@ -1,5 +1,6 @@
 //! The same calls on libraries with the C interface and on the reference, each with memory of its own. After each call
-//! the answer, the state and every byte of each memory must be those of the reference, but for the order of listed sets.
+//! the answer, the state and every byte of each memory must be those of the reference, but for the order of listed
+//! sets.
 
 use crate::capi::{Library, State, Work};
 use crate::expected;

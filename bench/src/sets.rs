@@ -1,5 +1,5 @@
-//! Lists of minimal cut sets through the C library beside the same lists by the reference, each into a slice of its own.
-//! A round goes through every tree and both, so that all see the same machine.
+//! Lists of minimal cut sets through the C library beside the same lists by the reference, each into a slice of its
+//! own. A round goes through every tree and both, so that all see the same machine.
 
 use crate::capi::{State, CAPI};
 use crate::expected;

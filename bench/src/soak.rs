@@ -1,6 +1,6 @@
-//! Calls in a random order on a desk for the C library: questions, judgements, cut sets, hand-ins good and bad and drops,
-//! with changed store bytes, states and store lengths between them. Most trees are small, so that many calls take
-//! little time.
+//! Calls in a random order on a desk for the C library: questions, judgements, cut sets, hand-ins good and bad and
+//! drops, with changed store bytes, states and store lengths between them. Most trees are small, so that many calls
+//! take little time.
 
 use crate::capi::{State, CAPI};
 use crate::desk::{guarded, Checked, Desk, Difference, Tally};
