@@ -14,6 +14,7 @@ pub mod evaluation;
 pub mod monitor;
 pub mod cut_sets;
 pub mod levels;
+pub mod set_lines;
 pub mod hex;
 pub mod calls;
 pub mod vectors;

@@ -1,7 +1,8 @@
 //! Trees for minimal cut sets: few and many events, few and many sets, gates of one input.
 
+use super::tree_damage::TREE_DAMAGES;
 use super::trees::{chain, comb, most_events, random_tree, Shape};
-use super::valid::small_tree;
+use super::valid::{any_number, small_tree};
 use crate::cut_sets::{count_sets, MOST_EVENTS};
 use crate::describe::{tree_bytes, Node};
 use crate::monitor::State;
@@ -55,12 +56,12 @@ pub fn stretched(random: &mut Random, nodes: usize) -> Vec<Node> {
     random_tree(random, shape)
 }
 
-/// Widths of up to this many events in all.
-fn widths(random: &mut Random, events: usize, widest: usize) -> Vec<usize> {
+/// Widths in a range, of so many events in all; the last may be less.
+fn widths(random: &mut Random, events: usize, least: usize, most: usize) -> Vec<usize> {
     let mut widths = Vec::new();
     let mut left = events;
     while left > 0 {
-        let width = random.between(1, widest.min(left));
+        let width = random.between(least, most).min(left);
         widths.push(width);
         left -= width;
     }
@@ -82,14 +83,19 @@ pub fn set_tree(random: &mut Random) -> Vec<Node> {
             let events = random.between(2, MOST_EVENTS + 1);
             comb(random, events)
         }
-        4 | 5 => {
-            let (events, widest) = (random.between(2, MOST_EVENTS + 1), random.between(2, 16));
-            let widths = widths(random, events, widest);
-            if random.percent(70) {
+        4 => {
+            let (events, most) = (random.between(2, MOST_EVENTS + 1), random.between(2, 16));
+            let widths = widths(random, events, 1, most);
+            if random.percent(50) {
                 and_of_ors(&widths)
             } else {
                 two_levels(Node::Or, Node::And, &widths)
             }
+        }
+        // From a hundred sets to some billions.
+        5 => {
+            let events = if random.percent(50) { MOST_EVENTS } else { random.between(15, MOST_EVENTS) };
+            and_of_ors(&widths(random, events, 2, 5))
         }
         6 => {
             let nodes = random.between(2, 72);
@@ -100,6 +106,15 @@ pub fn set_tree(random: &mut Random) -> Vec<Node> {
             random_tree(random, Shape { nodes, event_share, widest: 16 })
         }
     }
+}
+
+/// A tree file for the text of cut sets.
+pub fn tree_case(random: &mut Random, index: u64) -> Vec<u8> {
+    if index % 4 == 3 {
+        return random.pick(&TREE_DAMAGES)(random).tree;
+    }
+    let nodes = set_tree(random);
+    tree_bytes(any_number(random), &nodes)
 }
 
 /// The number of minimal cut sets of a tree, or nothing where it has too many events.

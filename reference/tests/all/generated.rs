@@ -10,6 +10,7 @@ use reference::cases::{write_case, Kind, KINDS};
 use reference::framing::{frame, split_frames};
 use reference::levels::print_levels;
 use reference::random::Random;
+use reference::set_lines::print_sets;
 use std::collections::BTreeSet;
 
 fn check(case: &Case, index: u64) {
@@ -103,6 +104,21 @@ fn set_lists_have_every_refusal_of_theirs() {
     let seen = list_refusals(Kind::Sets, 500);
     assert!([21, 23, 26, 27].iter().all(|number| seen.contains(number)), "{seen:?}");
     assert!(![13, 22, 24, 25].iter().any(|number| seen.contains(number)), "{seen:?}");
+}
+
+/// Few sets and many, above 10^9 too, and faults.
+#[test]
+fn tree_cases_have_counts_of_every_size() {
+    let mut sizes = BTreeSet::new();
+    let mut seen = BTreeSet::new();
+    for index in 0..1_000 {
+        let text = print_sets(&write_case(Kind::Trees, 15, index));
+        seen.extend(refusals(&text));
+        let count = text.lines().next().unwrap().split_once(" cut sets ").map(|(_, count)| count.len());
+        sizes.extend(count);
+    }
+    assert_eq!(seen, (1..=9).chain([26]).collect());
+    assert_eq!(sizes, (1..=10).collect());
 }
 
 #[test]

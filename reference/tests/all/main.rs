@@ -15,6 +15,7 @@ mod cut_sets;
 mod minimal_cut_sets;
 mod enclosure;
 mod printer;
+mod set_lines;
 mod call_text;
 mod vectors;
 mod generated;
