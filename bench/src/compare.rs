@@ -8,7 +8,7 @@ use reference::cases::large_damage::LARGE_DAMAGES;
 use reference::cases::limits::LIMITS;
 use reference::cases::valid::{lively_pair, small_tree};
 use reference::cases::vector_list::vector_list;
-use reference::cases::{is_list, write_case, Kind};
+use reference::cases::{write_case, Kind};
 use reference::cut::Level;
 use reference::levels::INPUT_HEADER;
 use reference::random::Random;
@@ -106,7 +106,7 @@ fn run_calls(desk: &mut Desk, calls: &[Call]) -> Result<(), (usize, Difference)>
 fn generated_calls(seed: u64, index: u64) -> Vec<Call> {
     let (kind, turn) = ([Kind::Calls, Kind::Mixed, Kind::Sets][(index % 3) as usize], index / 3);
     let case = write_case(kind, seed, turn);
-    if !is_list(kind) {
+    if kind == Kind::Mixed {
         return input_calls(&case, seed ^ index);
     }
     let parsed = |line: &str| parse_call(line).unwrap_or_else(|| panic!("{line:?} is no call"));
