@@ -41,6 +41,15 @@ pub fn and_of_ors(widths: &[usize]) -> Vec<Node> {
     two_levels(Node::And, Node::Or, widths)
 }
 
+/// 64 events, of which one set fails the root, and each event outside it alone does.
+pub fn with_set(set: u64) -> Vec<Node> {
+    let mut nodes = vec![Node::Event; MOST_EVENTS];
+    let (inside, mut inputs): (Vec<u16>, Vec<u16>) = (0..MOST_EVENTS as u16).partition(|event| set >> event & 1 == 1);
+    inputs.push(join(&mut nodes, Node::And, inside));
+    join(&mut nodes, Node::Or, inputs);
+    nodes
+}
+
 /// The tree under so many gates of one input.
 pub fn under_gates(random: &mut Random, mut nodes: Vec<Node>, gates: usize) -> Vec<Node> {
     for _ in 0..gates {

@@ -4,14 +4,14 @@
 
 use super::call_lists::{call_list, set_list};
 use super::changed::changed_input;
-use super::set_trees::{and_of_ors, set_count, stretched, two_levels, under_gates, GateOf};
+use super::set_trees::{and_of_ors, set_count, stretched, two_levels, under_gates, with_set, GateOf};
 use super::sheet_damage::SHEET_DAMAGES;
 use super::sheets::{any_four, any_opinions};
 use super::tree_damage::TREE_DAMAGES;
 use super::trees::{chain, comb, count_events, most_events, one_gate};
 use super::valid::{any_pair, lively_pair, small_tree, valid_case, Pair};
 use crate::bytes::{read_16, write_16};
-use crate::calls::{parse_call, Call};
+use crate::calls::{parse_call, Call, SET_FILL};
 use crate::cut::Level;
 use crate::describe::{same, Entry, Node};
 use crate::end::U;
@@ -504,6 +504,8 @@ impl List {
         self.sets_of(and_of_ors(&[4; 16]));
         self.sets_of(and_of_ors(&[3; 21]));
         self.sets_of(and_of_ors(&[&[4][..], &[3; 20]].concat()));
+        // A set like what the slice held before.
+        self.sets_of(with_set(SET_FILL));
         let longest = chain(&mut self.random, tree_file::MOST_NODES);
         self.sets_of(longest);
         let chained = under_gates(&mut self.random, and_of_ors(&[2, 3]), 900);

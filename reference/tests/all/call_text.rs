@@ -1,7 +1,7 @@
 //! The text of a list of calls.
 
-use reference::calls::run_calls;
-use reference::cases::set_trees::join;
+use reference::calls::{run_calls, SET_FILL};
+use reference::cases::set_trees::{join, with_set};
 use reference::describe::{sheet_bytes, tree_bytes, Entry, Node};
 use reference::hex::hex_text;
 
@@ -48,6 +48,15 @@ fn sets_are_summed() {
         format!("refused 27 at 0\n{after}sets 1 0 0 left 1\n"),
     ];
     assert_eq!(run_calls(&list), (expected.concat(), true));
+}
+
+/// A listed set like what the slice held before is no place left.
+#[test]
+fn set_like_the_fill() {
+    let tree = hex_text(&tree_bytes(7, &with_set(SET_FILL)));
+    let (text, _) = run_calls(&format!("stores {} 0\ntree {tree}\ncut-sets 17\ncut-sets 19\n", tree.len() / 2));
+    let sets: Vec<&str> = text.lines().filter(|line| line.starts_with("sets ")).collect();
+    assert!(sets.len() == 2 && sets[0].ends_with(" left 0") && sets[1].ends_with(" left 2"), "{sets:?}");
 }
 
 #[test]
