@@ -1,10 +1,10 @@
 /*
  * Nekbrod, a proved risk monitor for fault trees: the calls for C and C++.
  *
- * The monitor holds one tree file and one opinion sheet and answers a level with an enclosure of the top probability.
- * It has no memory of its own: what it holds is two lengths, which the caller keeps between calls, and the bytes of
- * both files, which lie in two stores that the caller lends at each call. Calls that write to different memory may run
- * at the same time.
+ * The monitor holds one tree file and one opinion sheet, answers a level with an enclosure of the top probability, and
+ * lists the tree's minimal cut sets. It has no memory of its own: what it holds is two lengths, which the caller keeps
+ * between calls, and the bytes of both files, which lie in two stores that the caller lends at each call. Calls that
+ * write to different memory may run at the same time.
  *
  * Each function is proved to answer and to write what is said here for every content of the memory it is lent
  * (docs/PROMISES.md). That memory is the caller's part, and nothing checks it:
@@ -27,7 +27,7 @@ extern "C" {
 #endif
 
 /* The version of this header: major, minor and patch, a byte each. nekbrod_version answers that of the library. */
-#define NEKBROD_VERSION 0x000100u
+#define NEKBROD_VERSION 0x000200u
 
 /* Ends are counted in units: one unit is a billionth, so this is the probability 1. */
 #define NEKBROD_ONE 1000000000u
@@ -50,8 +50,8 @@ typedef struct nekbrod_state {
 } nekbrod_state;
 
 /*
- * The numbers of the refusals, those of document 01, each with what it says and, after the colon, the place that comes
- * with it. An offset is in bytes from 0 in the file handed in.
+ * The numbers of the refusals, those of documents 01 and 02, each with what it says and, after the colon, the place
+ * that comes with it. An offset is in bytes from 0 in the file handed in.
  */
 /* Of a file handed in. */
 #define NEKBROD_TOO_SHORT 1u     /* the file is shorter than its header (tree 9, sheet 26): the file's length */
@@ -76,6 +76,9 @@ typedef struct nekbrod_state {
                                    0 for the tree, 1 for the sheet */
 #define NEKBROD_OTHER_TREE 24u  /* the sheet is for another tree, or not for its number of events: 0 */
 #define NEKBROD_SHORT_SLICE 25u /* a work slice is shorter than the tree has nodes: 0 */
+/* Of cut sets; 21 and 23 are of them too. */
+#define NEKBROD_MANY_EVENTS 26u /* the held tree has more than 64 basic events: 0 */
+#define NEKBROD_SHORT_LIST 27u  /* the slice is shorter than the number of minimal cut sets: 0 */
 
 /*
  * Why a call was refused, by one of the numbers above. Number 0: it was not refused, and the place is 0. A refused call
@@ -118,6 +121,19 @@ typedef struct nekbrod_reply {
     bool upper_exact;
     size_t events;
 } nekbrod_reply;
+
+/* What counting answers: the refusal, and how many minimal cut sets the held tree has, 0 where it is refused. */
+typedef struct nekbrod_set_count {
+    nekbrod_refusal refusal;
+    uint64_t count;
+} nekbrod_set_count;
+
+/* What listing answers: the state, as it went in; the refusal; and how many sets it wrote, 0 where it is refused. */
+typedef struct nekbrod_listing {
+    nekbrod_state state;
+    nekbrod_refusal refusal;
+    uint64_t count;
+} nekbrod_listing;
 
 /* The library's version, as NEKBROD_VERSION has that of the header: equal where both are of one delivery. */
 uint32_t nekbrod_version(void);
@@ -163,6 +179,23 @@ nekbrod_reply nekbrod_question(nekbrod_state state, const uint8_t *tree_store, s
                                const uint8_t *sheet_store, size_t sheet_store_len, uint32_t k, uint32_t n,
                                uint32_t *lower, size_t lower_len, uint32_t *upper, size_t upper_len, uint8_t *marks,
                                size_t marks_len);
+
+/*
+ * Counts the minimal cut sets of the held tree, and writes nothing. A minimal cut set is a set of basic events under
+ * which the root fails when they fail and no others do, while under no set strictly inside it does.
+ * Reads the store as far as the held length: the tree is judged afresh, as its bytes stand. No sheet is needed.
+ * Refused by 21, 23 for the tree, or 26, in that order.
+ */
+nekbrod_set_count nekbrod_count_cut_sets(nekbrod_state state, const uint8_t *tree_store, size_t tree_store_len);
+
+/*
+ * Lists the minimal cut sets of the held tree. Judges and reads as nekbrod_count_cut_sets does, refused as it is, and
+ * by 27 after all else, before anything is written.
+ * Answered, sets[0 .. listing.count) holds every minimal cut set once and no other set, each as a number with bit i set
+ * exactly for basic event i; in which order is left open. Places from listing.count on stay.
+ */
+nekbrod_listing nekbrod_list_cut_sets(nekbrod_state state, const uint8_t *tree_store, size_t tree_store_len,
+                                      uint64_t *sets, size_t sets_len);
 
 #ifdef __cplusplus
 }

@@ -1,5 +1,5 @@
 //! The C interface, declared as in include/nekbrod.h, with a safe function for each call. Two libraries have it: the
-//! proved one, and the peer.
+//! proved one, and the peer, which has no cut sets.
 
 /// The probability 1 in units.
 pub const ONE: u32 = 1_000_000_000;
@@ -46,12 +46,35 @@ pub struct Reply {
     pub events: usize,
 }
 
+/// The count is 0 where it is refused.
+#[repr(C)]
+#[derive(Clone, Copy, PartialEq, Eq, Debug)]
+pub struct SetCount {
+    pub refusal: Refusal,
+    pub count: u64,
+}
+
+#[repr(C)]
+#[derive(Clone, Copy, PartialEq, Eq, Debug)]
+pub struct Listing {
+    pub state: State,
+    pub refusal: Refusal,
+    pub count: u64,
+}
+
 type HandIn = unsafe extern "C" fn(State, *const u8, usize, *mut u8, usize) -> Answer;
 type Judge = unsafe extern "C" fn(State, *const u8, usize, *const u8, usize, u32, u32) -> Standing;
 #[rustfmt::skip]
 type Question = unsafe extern "C" fn(
     State, *const u8, usize, *const u8, usize, u32, u32, *mut u32, usize, *mut u32, usize, *mut u8, usize,
 ) -> Reply;
+
+/// The calls for minimal cut sets.
+#[derive(Clone, Copy)]
+struct CutSets {
+    count: unsafe extern "C" fn(State, *const u8, usize) -> SetCount,
+    list: unsafe extern "C" fn(State, *const u8, usize, *mut u64, usize) -> Listing,
+}
 
 /// A library with the calls of the header.
 #[derive(Clone, Copy)]
@@ -62,11 +85,15 @@ pub struct Library {
     drop_both: unsafe extern "C" fn(State) -> State,
     judge: Judge,
     question: Question,
+    cut_sets: Option<CutSets>,
 }
 
 /// The library whose calls have these names.
 macro_rules! declared_library {
-    ($name:literal, $hand_in_tree:ident, $hand_in_sheet:ident, $drop_both:ident, $judge:ident, $question:ident) => {{
+    (
+        $name:literal, $hand_in_tree:ident, $hand_in_sheet:ident, $drop_both:ident, $judge:ident, $question:ident,
+        $cut_sets:expr
+    ) => {{
         extern "C" {
             fn $hand_in_tree(
                 state: State,
@@ -115,8 +142,20 @@ macro_rules! declared_library {
             drop_both: $drop_both,
             judge: $judge,
             question: $question,
+            cut_sets: $cut_sets,
         }
     }};
+}
+
+extern "C" {
+    fn nekbrod_count_cut_sets(state: State, tree_store: *const u8, tree_store_len: usize) -> SetCount;
+    fn nekbrod_list_cut_sets(
+        state: State,
+        tree_store: *const u8,
+        tree_store_len: usize,
+        sets: *mut u64,
+        sets_len: usize,
+    ) -> Listing;
 }
 
 /// The proved library.
@@ -126,12 +165,13 @@ pub const CAPI: Library = declared_library!(
     nekbrod_hand_in_sheet,
     nekbrod_drop_both,
     nekbrod_judge,
-    nekbrod_question
+    nekbrod_question,
+    Some(CutSets { count: nekbrod_count_cut_sets, list: nekbrod_list_cut_sets })
 );
 
 /// The plain C program, src/peer.c.
 pub const PEER: Library =
-    declared_library!("peer", peer_hand_in_tree, peer_hand_in_sheet, peer_drop_both, peer_judge, peer_question);
+    declared_library!("peer", peer_hand_in_tree, peer_hand_in_sheet, peer_drop_both, peer_judge, peer_question, None);
 
 /// An empty slice goes as the null pointer, as C's callers may pass one.
 fn read<T>(slice: &[T]) -> *const T {
@@ -198,5 +238,21 @@ impl Library {
                 marks.len(),
             )
         }
+    }
+
+    pub fn has_cut_sets(&self) -> bool {
+        self.cut_sets.is_some()
+    }
+
+    /// Nothing where the library has no cut sets.
+    pub fn count_cut_sets(&self, state: State, tree: &[u8]) -> Option<SetCount> {
+        // SAFETY: the slice is there for its length, and nothing is written.
+        self.cut_sets.map(|calls| unsafe { (calls.count)(state, read(tree), tree.len()) })
+    }
+
+    /// Nothing where the library has no cut sets.
+    pub fn list_cut_sets(&self, state: State, tree: &[u8], sets: &mut [u64]) -> Option<Listing> {
+        // SAFETY: both slices are there for their lengths, and Rust keeps the written one apart from the other.
+        self.cut_sets.map(|calls| unsafe { (calls.list)(state, read(tree), tree.len(), written(sets), sets.len()) })
     }
 }

@@ -17,6 +17,9 @@ use reference::tree_judge::judge_tree;
 use reference::{opinion_sheet, tree_file};
 use std::fmt::{self, Display, Formatter};
 
+/// Places of the slice for the cut sets of an input's tree.
+const LISTED: usize = 100;
+
 /// Which cases: COUNT of them from case `first` on. Case i of a seed does not depend on how many are run.
 #[derive(Clone, Copy, Debug)]
 pub struct Cases {
@@ -98,14 +101,16 @@ fn run_calls(desk: &mut Desk, calls: &[Call]) -> Result<(), (usize, Difference)>
     Ok(())
 }
 
-/// A list of calls and an input of the printer by turns; each kind keeps a count of its own.
+/// A list of calls, an input of the printer and a list of calls for cut sets by turns; each kind keeps a count of its
+/// own.
 fn generated_calls(seed: u64, index: u64) -> Vec<Call> {
-    if index.is_multiple_of(2) {
-        let list = write_case(Kind::Calls, seed, index / 2);
-        let parsed = |line: &str| parse_call(line).unwrap_or_else(|| panic!("{line:?} is no call"));
-        return held_pair(seed ^ index).into_iter().chain(String::from_utf8_lossy(&list).lines().map(parsed)).collect();
+    let (kind, turn) = ([Kind::Calls, Kind::Mixed, Kind::Sets][(index % 3) as usize], index / 3);
+    let case = write_case(kind, seed, turn);
+    if kind == Kind::Mixed {
+        return input_calls(&case, seed ^ index);
     }
-    input_calls(&write_case(Kind::Mixed, seed, index / 2), seed ^ index)
+    let parsed = |line: &str| parse_call(line).unwrap_or_else(|| panic!("{line:?} is no call"));
+    held_pair(seed ^ index).into_iter().chain(String::from_utf8_lossy(&case).lines().map(parsed)).collect()
 }
 
 /// Stores for the largest files, and a pair in them.
@@ -120,8 +125,9 @@ fn held_pair(pair_seed: u64) -> Vec<Call> {
     vec![stores, Call::Tree(pair.tree()), Call::Sheet(pair.sheet())]
 }
 
-/// The input's files, whatever their lengths, handed in over a held pair, and its levels: the outermost, the middle and
-/// the first ones. Where a file is refused, the first level meets what is held then and the others the pair again.
+/// The input's files, whatever their lengths, handed in over a held pair, its levels, the outermost, the middle and the
+/// first ones, and its cut sets. Where a file is refused, the first level meets what is held then and all else the pair
+/// again.
 fn input_calls(input: &[u8], pair_seed: u64) -> Vec<Call> {
     let field = |place: usize| match input.get(place..place + 2) {
         Some(bytes) => u16::from_le_bytes([bytes[0], bytes[1]]) as usize,
@@ -139,7 +145,8 @@ fn input_calls(input: &[u8], pair_seed: u64) -> Vec<Call> {
     for k in [0, n / 2, 1, 2] {
         calls.extend(level_calls(Level { k, n }));
     }
-    calls.extend([Call::Drop, Call::Judge(Level { k: 0, n: 1 })]);
+    calls.extend([Call::Count, Call::CutSets(LISTED)]);
+    calls.extend([Call::Drop, Call::Judge(Level { k: 0, n: 1 }), Call::Count]);
     calls
 }
 

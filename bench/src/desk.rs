@@ -1,10 +1,12 @@
 //! The same calls on libraries with the C interface and on the reference, each with memory of its own. After each call
-//! the answer, the state and every byte of each memory must be those of the reference.
+//! the answer, the state and every byte of each memory must be those of the reference, but for the order of listed
+//! sets.
 
 use crate::capi::{Library, State, Work};
 use crate::expected;
-use reference::calls::{Call, LOWER_FILL, MARK_FILL, STORE_FILL, UPPER_FILL};
+use reference::calls::{Call, LOWER_FILL, MARK_FILL, SET_FILL, STORE_FILL, UPPER_FILL};
 use reference::cut::Level;
+use reference::cut_sets;
 use reference::evaluation::WorkSlices;
 use reference::monitor::{self, Stores};
 use std::fmt::Debug;
@@ -25,6 +27,9 @@ pub fn guarded(work: impl FnOnce() -> Checked) -> Checked {
 /// Places of each work slice; a question is lent the first ones, and the others are watched.
 pub const ROOM: usize = 1_100;
 
+/// Places watched behind the slice that a list is lent.
+const WATCHED_SETS: usize = 8;
+
 #[derive(Clone, PartialEq, Eq)]
 struct Memory {
     tree: Vec<u8>,
@@ -32,6 +37,8 @@ struct Memory {
     lower: Vec<u32>,
     upper: Vec<u32>,
     marks: Vec<u8>,
+    /// Filled anew for each list, and compared after it.
+    sets: Vec<u64>,
 }
 
 /// How many calls were compared.
@@ -44,6 +51,10 @@ pub struct Tally {
     pub unheld: u64,
     pub hand_ins: u64,
     pub accepted: u64,
+    /// Lists of minimal cut sets, those answered, and the sets in them.
+    pub lists: u64,
+    pub listed: u64,
+    pub sets: u64,
 }
 
 impl Tally {
@@ -54,6 +65,9 @@ impl Tally {
         self.unheld += other.unheld;
         self.hand_ins += other.hand_ins;
         self.accepted += other.accepted;
+        self.lists += other.lists;
+        self.listed += other.listed;
+        self.sets += other.sets;
     }
 }
 
@@ -72,6 +86,7 @@ impl Desk {
             lower: vec![LOWER_FILL; ROOM],
             upper: vec![UPPER_FILL; ROOM],
             marks: vec![MARK_FILL; ROOM],
+            sets: Vec::new(),
         };
         Desk {
             state: State::default(),
@@ -96,6 +111,8 @@ impl Desk {
                 self.fill_slices();
                 return self.question(*level, *places);
             }
+            Call::Count => return self.count_cut_sets(),
+            Call::CutSets(places) => return self.list_cut_sets(*places),
         }
         Ok(())
     }
@@ -197,6 +214,39 @@ impl Desk {
             };
             library.question(state, &memory.tree, &memory.sheet, k, n, work)
         })
+    }
+
+    pub fn count_cut_sets(&mut self) -> Checked {
+        let state = self.state;
+        let wanted = expected::set_count(cut_sets::count_sets(expected::held(state), &self.reference.tree));
+        self.compare(wanted, |library, memory| library.count_cut_sets(state, &memory.tree).unwrap_or(wanted))
+    }
+
+    /// Lends that many filled places; those behind them are watched. Sets are compared in rising order.
+    pub fn list_cut_sets(&mut self, places: usize) -> Checked {
+        let state = self.state;
+        for memory in self.memories() {
+            memory.sets.clear();
+            memory.sets.resize(places + WATCHED_SETS, SET_FILL);
+        }
+        let memory = &mut self.reference;
+        let wanted = cut_sets::list_sets(expected::held(state), &memory.tree, &mut memory.sets[..places]);
+        let wanted = expected::listing(wanted);
+        let count = wanted.count as usize;
+        memory.sets[..count].sort_unstable();
+        self.tally.lists += 1;
+        self.tally.listed += u64::from(wanted.refusal.number == 0);
+        self.tally.sets += wanted.count;
+        self.state = wanted.state;
+        self.compare(wanted, |library, memory| {
+            library.list_cut_sets(state, &memory.tree, &mut memory.sets[..places]).unwrap_or(wanted)
+        })?;
+        for (library, memory) in self.libraries.iter_mut().filter(|(library, _)| library.has_cut_sets()) {
+            memory.sets[..count].sort_unstable();
+            let found = same_places("sets in rising order", &memory.sets, &self.reference.sets);
+            found.map_err(|Difference(left)| Difference(format!("{} {left}", library.name)))?;
+        }
+        Ok(())
     }
 
     fn count_hand_in(&mut self, accepted: bool) {

@@ -1,6 +1,6 @@
 //! What the C interface must answer, by what the reference answers.
 
-use crate::capi::{Answer, Refusal, Reply, Standing, State, ONE};
+use crate::capi::{Answer, Listing, Refusal, Reply, SetCount, Standing, State, ONE};
 use reference::monitor;
 use reference::refusal;
 
@@ -50,4 +50,16 @@ pub fn reply((after, outcome): (monitor::State, Result<monitor::Answer, refusal:
         },
         Err(reason) => Reply { refusal: refusal(reason), ..nothing_said },
     }
+}
+
+pub fn set_count(outcome: Result<u64, refusal::Refusal>) -> SetCount {
+    match outcome {
+        Ok(count) => SetCount { refusal: Refusal::default(), count },
+        Err(reason) => SetCount { refusal: refusal(reason), count: 0 },
+    }
+}
+
+pub fn listing((after, outcome): (monitor::State, Result<u64, refusal::Refusal>)) -> Listing {
+    let SetCount { refusal, count } = set_count(outcome);
+    Listing { state: state(after), refusal, count }
 }

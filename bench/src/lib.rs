@@ -7,3 +7,4 @@ pub mod desk;
 pub mod compare;
 pub mod soak;
 pub mod ratios;
+pub mod sets;

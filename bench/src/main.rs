@@ -3,6 +3,7 @@
 use bench::compare::{compare, Cases};
 use bench::desk::Tally;
 use bench::ratios::{costs, Cost, Entries, Size};
+use bench::sets;
 use bench::soak::soak;
 use std::process::ExitCode;
 use std::time::{Instant, SystemTime, UNIX_EPOCH};
@@ -12,9 +13,11 @@ bench                               questions through capi beside the same to th
 bench compare [SEED COUNT [FIRST]]  generated cases through capi, the peer and reference/, from case FIRST on; with no
                                     FIRST all limits and all faults in large files too
 bench soak [SEED CALLS]             calls in a random order through capi and reference/, each checked
+bench sets                          lists of up to a million cut sets through capi beside reference/: ratios, and the
+                                    cost per set
 ";
 
-const CASES: u64 = 50_000;
+const CASES: u64 = 75_000;
 const SOAK_CALLS: u64 = 10_000_000;
 const NODES: [usize; 6] = [3, 64, 127, 255, 511, 1_023];
 const ENTRIES: [(Entries, &str); 3] =
@@ -46,6 +49,7 @@ fn run(words: &[&str]) -> Option<bool> {
             count: count.parse().ok()?,
             first: first.parse().ok()?,
         })),
+        ["sets"] => Some(print_sets()),
         ["soak"] => Some(run_soak(any_seed(), SOAK_CALLS)),
         ["soak", seed, calls] => Some(run_soak(seed.parse().ok()?, calls.parse().ok()?)),
         _ => None,
@@ -58,9 +62,10 @@ fn any_seed() -> u64 {
 }
 
 fn counts(tally: Tally) -> String {
-    let Tally { calls, questions, answered, unheld, hand_ins, accepted } = tally;
+    let Tally { calls, questions, answered, unheld, hand_ins, accepted, lists, listed, sets } = tally;
     let questions = format!("{questions} questions, {answered} answered, {unheld} with nothing to answer from");
-    format!("{calls} calls: {questions}; {hand_ins} hand-ins, {accepted} accepted")
+    let lists = format!("{lists} lists of cut sets, {listed} answered with {sets} sets");
+    format!("{calls} calls: {questions}; {hand_ins} hand-ins, {accepted} accepted; {lists}")
 }
 
 fn run_compare(cases: Cases) -> bool {
@@ -101,6 +106,15 @@ fn print_ratios() -> bool {
         let Cost { capi, peer, ratio } = cost;
         print!("{name:12} {:6} {capi:9.0} {peer:9.0} {ratio:10.2}", size.nodes);
         println!(" {:7.1} {:7.1}", capi / nodes, peer / nodes);
+    }
+    true
+}
+
+fn print_sets() -> bool {
+    println!("                  a set, ns");
+    println!("    sets  nodes       capi  reference  capi/reference");
+    for sets::Cost { nodes, sets, capi, reference, ratio } in sets::costs() {
+        println!("{sets:8} {nodes:6} {capi:10.1} {reference:10.2} {ratio:15.1}");
     }
     true
 }

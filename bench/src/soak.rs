@@ -1,9 +1,10 @@
-//! Calls in a random order on a desk for the C library: questions, judgements, hand-ins good and bad and drops, with
-//! changed store bytes, states and store lengths between them. Most trees are small, so that many calls take little
-//! time.
+//! Calls in a random order on a desk for the C library: questions, judgements, cut sets, hand-ins good and bad and
+//! drops, with changed store bytes, states and store lengths between them. Most trees are small, so that many calls
+//! take little time.
 
 use crate::capi::{State, CAPI};
 use crate::desk::{guarded, Checked, Desk, Difference, Tally};
+use reference::cases::set_trees::{set_count, set_tree};
 use reference::cases::sheet_damage::SHEET_DAMAGES;
 use reference::cases::tree_damage::TREE_DAMAGES;
 use reference::cases::trees::{chain, most_events, random_tree, Shape};
@@ -14,16 +15,28 @@ use reference::random::Random;
 
 /// Calls between two changes of the files at hand.
 const CALLS_A_SHELF: u64 = 20_000;
-/// One shelf in this many has large trees.
-const LARGE_SHELVES: u64 = 8;
+/// One shelf in this many has large trees, and another has trees for cut sets.
+const SHELVES: u64 = 8;
+/// The slice of a list has up to this many places.
+const MOST_SETS: u64 = 300;
 const PAIRS: usize = 12;
 const DAMAGED: usize = 24;
 
-/// The files of a pair, and its number of nodes.
+/// The trees of a shelf.
+#[derive(Clone, Copy, PartialEq, Eq)]
+enum Trees {
+    Little,
+    Large,
+    /// Of few and many events, sets and gates of one input.
+    Sets,
+}
+
+/// The files of a pair, its number of nodes, and the number of minimal cut sets where there are not too many.
 struct Files {
     tree: Vec<u8>,
     sheet: Vec<u8>,
     nodes: usize,
+    sets: usize,
 }
 
 /// The files at hand.
@@ -34,20 +47,25 @@ struct Shelf {
 }
 
 impl Shelf {
-    fn new(random: &mut Random, large: bool) -> Shelf {
+    fn new(random: &mut Random, trees: Trees) -> Shelf {
         Shelf {
-            pairs: (0..PAIRS).map(|_| any_files(random, large)).collect(),
+            pairs: (0..PAIRS).map(|_| any_files(random, trees)).collect(),
             bad_trees: (0..DAMAGED).map(|_| random.pick(&TREE_DAMAGES)(random).tree).collect(),
             bad_sheets: (0..DAMAGED).map(|_| random.pick(&SHEET_DAMAGES)(random).sheet).collect(),
         }
     }
 }
 
-fn any_files(random: &mut Random, large: bool) -> Files {
-    let nodes = if large { large_tree(random) } else { little_tree(random) };
+fn any_files(random: &mut Random, trees: Trees) -> Files {
+    let nodes = match trees {
+        Trees::Little => little_tree(random),
+        Trees::Large => large_tree(random),
+        Trees::Sets => set_tree(random),
+    };
     let count = nodes.len();
+    let sets = set_count(&nodes).unwrap_or(1).min(MOST_SETS) as usize;
     let pair = if random.percent(50) { any_pair(random, nodes) } else { lively_pair(random, nodes) };
-    Files { tree: pair.tree(), sheet: pair.sheet(), nodes: count }
+    Files { tree: pair.tree(), sheet: pair.sheet(), nodes: count, sets }
 }
 
 fn little_tree(random: &mut Random) -> Vec<Node> {
@@ -81,7 +99,7 @@ struct Soak {
 /// Runs calls until that many were compared, or to the first difference.
 pub fn soak(seed: u64, calls: u64) -> (Tally, Result<(), Difference>) {
     let mut random = Random::for_case(seed, 0);
-    let shelf = Shelf::new(&mut random, false);
+    let shelf = Shelf::new(&mut random, Trees::Little);
     let mut soak = Soak { random, desk: Desk::new(&[CAPI]), shelf, chosen: 0 };
     let outcome = guarded(|| soak.run(calls));
     (soak.desk.tally, outcome)
@@ -92,7 +110,12 @@ impl Soak {
         let mut shelves = 0;
         while self.desk.tally.calls < calls {
             if self.desk.tally.calls / CALLS_A_SHELF >= shelves {
-                self.shelf = Shelf::new(&mut self.random, shelves % LARGE_SHELVES == LARGE_SHELVES - 1);
+                let trees = match SHELVES - 1 - shelves % SHELVES {
+                    0 => Trees::Large,
+                    4 => Trees::Sets,
+                    _ => Trees::Little,
+                };
+                self.shelf = Shelf::new(&mut self.random, trees);
                 shelves += 1;
                 self.take_pair()?;
             }
@@ -114,6 +137,8 @@ impl Soak {
             29..=31 => self.poke(),
             32 => self.change_state(),
             33 => self.change_stores(),
+            34 | 35 => self.desk.count_cut_sets(),
+            36..=40 => self.list_cut_sets(),
             _ => self.question(),
         }
     }
@@ -223,5 +248,11 @@ impl Soak {
             _ => places = places.map(|places| places + self.random.below(4)),
         }
         self.desk.question(level, places)
+    }
+
+    fn list_cut_sets(&mut self) -> Checked {
+        let sets = self.pair().sets;
+        let places = self.near(sets);
+        self.desk.list_cut_sets(places)
     }
 }

@@ -19,6 +19,9 @@
 static const uint8_t TREE[14] = {'F', 'T', 'F', 1, 0, 7, 0, 1, 0};
 static const uint8_t SHEET[43] = {'F', 'T', 'S', 1, 0, 7, 0, 1, [31] = 1, [35] = 1, [39] = 2};
 
+/* An OR of two basic events, whose minimal cut sets are the two alone. */
+static const uint8_t TWO[28] = {'F', 'T', 'F', 1, 0, 7, 0, 3, [15] = 1, [19] = 2, [22] = 2, [26] = 1};
+
 static const nekbrod_state NOTHING = {0, 0};
 static const nekbrod_state BOTH = {sizeof TREE, sizeof SHEET};
 
@@ -164,6 +167,95 @@ static void question_short(void)
     EXPECT(*lower == 0 && *upper == 2 && *marks == 0);
 }
 
+/* An OR of as many basic events, up to 65 of them, sixteen to a gate, in a file of its own. */
+static uint8_t *events_at_the_edge(size_t events, size_t *len)
+{
+    static uint8_t file[9 + 7 * 71];
+    size_t gates = (events + 15) / 16, nodes = events + gates + 1, at = 9;
+    memcpy(file, TREE, 9);
+    file[7] = (uint8_t)nodes;
+    for (size_t node = 0; node < nodes; node++, at += 5) {
+        size_t gate = node - events, inputs = gate == gates ? gates : gate == gates - 1 ? events - 16 * gate : 16;
+        const uint8_t event[5] = {0, (uint8_t)node}, or_gate[5] = {2, (uint8_t)(16 * gate), 0, (uint8_t)inputs};
+        memcpy(file + at, node < events ? event : or_gate, 5);
+    }
+    file[at - 4] = (uint8_t)events;
+    for (size_t input = 0; input < nodes - 1; input++, at += 2) {
+        file[at] = (uint8_t)input;
+        file[at + 1] = 0;
+    }
+    *len = at;
+    return copy_at_the_edge(file, at);
+}
+
+static void cut_sets_refused(void)
+{
+    uint8_t *tree = copy_at_the_edge(TREE, sizeof TREE);
+    uint64_t *sets = (uint64_t *)(void *)at_the_edge(8);
+    const nekbrod_state states[] = {NOTHING, {0, sizeof SHEET}, BOTH, {sizeof TREE, 0}};
+    for (size_t i = 0; i < 4; i++) {
+        size_t due = states[i].tree_len == 0 ? NEKBROD_NO_TREE : NEKBROD_CHANGED;
+        for (size_t lent = 0; lent < 2; lent++) {
+            uint8_t *store = lent == 0 ? NULL : tree;
+            size_t store_len = lent == 0 ? 0 : sizeof TREE - 1;
+            nekbrod_set_count counted = nekbrod_count_cut_sets(states[i], store, store_len);
+            EXPECT(refused(counted.refusal, due, 0) && counted.count == 0);
+            nekbrod_listing listing = nekbrod_list_cut_sets(states[i], store, store_len, NULL, 0);
+            EXPECT(refused(listing.refusal, due, 0) && same(listing.state, states[i]) && listing.count == 0);
+            listing = nekbrod_list_cut_sets(states[i], store, store_len, sets, 1);
+            EXPECT(refused(listing.refusal, due, 0) && same(listing.state, states[i]) && filled(sets, 8));
+        }
+    }
+    size_t len;
+    uint8_t *many = events_at_the_edge(65, &len);
+    nekbrod_state held = {len, 0};
+    EXPECT(refused(nekbrod_count_cut_sets(held, many, len).refusal, NEKBROD_MANY_EVENTS, 0));
+    EXPECT(refused(nekbrod_list_cut_sets(held, many, len, NULL, 0).refusal, NEKBROD_MANY_EVENTS, 0));
+    EXPECT(refused(nekbrod_list_cut_sets(held, many, len, sets, 1).refusal, NEKBROD_MANY_EVENTS, 0));
+    EXPECT(filled(sets, 8));
+}
+
+/* Slices of no place up to one more than there are sets; the sheet that is held or not does not matter. */
+static void cut_sets_short(void)
+{
+    uint8_t *two = copy_at_the_edge(TWO, sizeof TWO);
+    const nekbrod_state states[] = {{sizeof TWO, 0}, {sizeof TWO, sizeof SHEET}};
+    for (size_t i = 0; i < 2; i++) {
+        nekbrod_set_count counted = nekbrod_count_cut_sets(states[i], two, sizeof TWO);
+        EXPECT(refused(counted.refusal, 0, 0) && counted.count == 2);
+        for (size_t places = 0; places < 4; places++) {
+            uint64_t *sets = (uint64_t *)(void *)at_the_edge(8 * places);
+            nekbrod_listing listing =
+                nekbrod_list_cut_sets(states[i], two, sizeof TWO, places == 0 ? NULL : sets, places);
+            EXPECT(same(listing.state, states[i]));
+            if (places < 2) {
+                EXPECT(refused(listing.refusal, NEKBROD_SHORT_LIST, 0) && listing.count == 0);
+                EXPECT(filled(sets, 8 * places));
+            } else {
+                EXPECT(refused(listing.refusal, 0, 0) && listing.count == 2);
+                EXPECT((sets[0] == 1 && sets[1] == 2) || (sets[0] == 2 && sets[1] == 1));
+                EXPECT(filled(sets + 2, 8 * (places - 2)));
+            }
+        }
+    }
+}
+
+/* 64 basic events: each bit of a set is one of them. */
+static void cut_sets_of_64(void)
+{
+    size_t len;
+    uint8_t *tree = events_at_the_edge(64, &len);
+    nekbrod_state held = {len, 0};
+    uint64_t *sets = (uint64_t *)(void *)at_the_edge(8 * 64), all = 0;
+    EXPECT(refused(nekbrod_list_cut_sets(held, tree, len, sets, 63).refusal, NEKBROD_SHORT_LIST, 0));
+    EXPECT(filled(sets, 8 * 64));
+    EXPECT(nekbrod_list_cut_sets(held, tree, len, sets, 64).count == 64);
+    for (size_t i = 0; i < 64; i++) {
+        EXPECT(sets[i] != 0 && (sets[i] & (sets[i] - 1)) == 0 && (all & sets[i]) == 0);
+        all |= sets[i];
+    }
+}
+
 /* The filled bytes of each page before and after its slice. */
 static void look_beside(void)
 {
@@ -182,6 +274,9 @@ int main(void)
         hand_in_short();
         judge_short();
         question_short();
+        cut_sets_refused();
+        cut_sets_short();
+        cut_sets_of_64();
     }
     look_beside();
     if (failures == 0) {

@@ -11,14 +11,18 @@
 //!   drop               drop both
 //!   judge K N          judge level K of N: refusals 13 and 21 to 24
 //!   question K N L U M question level K of N, with work slices of L, U and M places
+//!   count              count the minimal cut sets of the held tree: refusals 21, 23 and 26
+//!   cut-sets P         list them into a slice of P places: these, and 27
 //!
 //! The first three are settings and print nothing. A question's slices hold 4000000001, 4000000002 and 238 at every
-//! place before it. Store and slice lengths are at most 65536. Each call prints its answer, one of
+//! place before it, and a list's slice 17216961135462248174 (ee in every byte). Store and slice lengths are at most
+//! 65536. Each call prints its answer, one of
 //!
 //!   accepted
 //!   dropped
 //!   nodes N events E
 //!   lower UNITS MARK upper UNITS MARK events E
+//!   cut sets COUNT
 //!   refused R at P
 //!
 //! where MARK is `=` for exact and `~` for not, and then all that there is after it:
@@ -29,6 +33,11 @@
 //!   lower UNITS ...    these three after a question alone; `lower` and nothing more for a slice of 0 places
 //!   upper UNITS ...
 //!   marks BYTE ...
+//!   sets P SUM SQUARES left LEFT    after a list alone
+//!
+//! The last does not depend on the order of the sets. SUM is the sum of the sets below the count, SQUARES that of their
+//! squares, both modulo 4294967291, and LEFT how many places from the count on still hold what they held before. Where
+//! the list is refused, both sums are 0 and LEFT counts all places.
 //!
 //! In the short form a store of more than 8 bytes is printed as `tree LENGTH FIRST..LAST CHECKSUM`, its first and last
 //! byte in hex, and a slice of more than 8 places as `lower LENGTH FIRST..LAST CHECKSUM`.
@@ -36,6 +45,7 @@
 //! A line that is none of these ends the list: `line I`, with I counted from 1, is the last line printed.
 
 use crate::cut::Level;
+use crate::cut_sets::{count_sets, list_sets};
 use crate::evaluation::WorkSlices;
 use crate::hex::{hex_text, parse_hex};
 use crate::levels::{end_text, refusal_line};
@@ -47,9 +57,12 @@ pub const STORE_FILL: u8 = 0xee;
 pub const LOWER_FILL: u32 = 4_000_000_001;
 pub const UPPER_FILL: u32 = 4_000_000_002;
 pub const MARK_FILL: u8 = 238;
+pub const SET_FILL: u64 = 0xeeee_eeee_eeee_eeee;
 pub const MOST_PLACES: usize = 65_536;
 /// In the short form a store or a slice of more places than this is printed by its ends.
 pub const MOST_WHOLE: usize = 8;
+/// The greatest prime below 2^32: sums that are printed are taken modulo it.
+const PRIME: u64 = 4_294_967_291;
 
 /// A setting or a call, as a line says it.
 #[derive(Clone, PartialEq, Eq, Debug)]
@@ -64,6 +77,9 @@ pub enum Call {
     Judge(Level),
     /// The level and the places of the lower, upper and mark slices.
     Question(Level, [usize; 3]),
+    Count,
+    /// The places of the slice.
+    CutSets(usize),
 }
 
 /// How stores and slices are printed: all of them, or a long one by its ends and its checksum.
@@ -114,6 +130,8 @@ pub fn parse_call(line: &str) -> Option<Call> {
         ["question", k, n, lower, upper, marks] => {
             Call::Question(Level { k: number(k)?, n: number(n)? }, [places(lower)?, places(upper)?, places(marks)?])
         }
+        ["count"] => Call::Count,
+        ["cut-sets", sets] => Call::CutSets(places(sets)?),
         _ => return None,
     })
 }
@@ -137,6 +155,8 @@ impl Desk {
             Call::Question(level, [lower, upper, marks]) => {
                 return Some(self.call_question(*level, *lower, *upper, *marks));
             }
+            Call::Count => return Some(self.call_count()),
+            Call::CutSets(places) => return Some(self.call_cut_sets(*places)),
         }
         Some(String::new())
     }
@@ -184,6 +204,17 @@ impl Desk {
         answer_line(answer) + &self.after() + &slices
     }
 
+    fn call_count(&self) -> String {
+        answer_line(count_sets(self.state, &self.tree_store).map(count_text)) + &self.after()
+    }
+
+    fn call_cut_sets(&mut self, places: usize) -> String {
+        let mut sets = vec![SET_FILL; places];
+        let (state, outcome) = list_sets(self.state, &self.tree_store, &mut sets);
+        self.state = state;
+        answer_line(outcome.map(count_text)) + &self.after() + &sets_line(&sets, outcome.unwrap_or(0) as usize)
+    }
+
     fn stores(&self) -> Stores<'_> {
         Stores { tree: &self.tree_store, sheet: &self.sheet_store }
     }
@@ -219,9 +250,22 @@ impl Desk {
     }
 }
 
-/// The places as the digits of a number in base 257, the first one highest, modulo the greatest prime below 2^32.
+/// The places as the digits of a number in base 257, the first one highest.
 fn checksum<T: Copy + Into<u64>>(places: &[T]) -> u64 {
-    places.iter().fold(0, |sum, &place| (sum * 257 + place.into()) % 4_294_967_291)
+    places.iter().fold(0, |sum, &place| (sum * 257 + place.into()) % PRIME)
+}
+
+fn count_text(count: u64) -> String {
+    format!("cut sets {count}")
+}
+
+/// The listed sets as sums, and how many of the other places still hold the fill.
+fn sets_line(sets: &[u64], count: usize) -> String {
+    let (listed, rest) = sets.split_at(count);
+    let sum = listed.iter().fold(0, |sum, set| (sum + set % PRIME) % PRIME);
+    let squares = listed.iter().fold(0, |sum, set| (sum + (set % PRIME) * (set % PRIME) % PRIME) % PRIME);
+    let left = rest.iter().filter(|&&place| place == SET_FILL).count();
+    format!("sets {} {sum} {squares} left {left}\n", sets.len())
 }
 
 /// Digits alone: no sign, and no leading zero.

@@ -1,4 +1,4 @@
-//! The ship's risk monitor a second time, written from document 01 alone.
+//! The ship's risk monitor a second time, written from documents 01 and 02 alone.
 //! Each module uses only modules listed before it.
 
 pub mod refusal;
@@ -12,7 +12,9 @@ pub mod sheet_judge;
 pub mod cut;
 pub mod evaluation;
 pub mod monitor;
+pub mod cut_sets;
 pub mod levels;
+pub mod set_lines;
 pub mod hex;
 pub mod calls;
 pub mod vectors;

@@ -4,11 +4,12 @@ use reference::calls::run_calls;
 use reference::cases::large_damage::LARGE_DAMAGES;
 use reference::cases::limits::LIMITS;
 use reference::cases::vector_list::vector_list;
-use reference::cases::{file_name, parse_kind, write_case, Kind};
+use reference::cases::{file_name, is_input, parse_kind, write_case, Kind};
 use reference::compare::{compare, report, Cases};
 use reference::examples::example;
 use reference::framing::{frame, split_frames};
 use reference::levels::{print_levels, printer_input};
+use reference::set_lines::print_sets;
 use reference::vectors::{stream_text, write_stream};
 use std::io::{self, Read, Write};
 use std::path::Path;
@@ -16,12 +17,13 @@ use std::process::ExitCode;
 
 const USAGE: &str = "\
 reference levels < input                       the level printer
+reference cut-sets < tree                      the minimal cut sets of a tree file, as lines in no promised order
 reference calls < list                         a list of calls (src/calls.rs says the format)
-reference each levels|calls < stream           the same for each framed case; the answers are framed alike
+reference each levels|cut-sets|calls < stream  the same for each framed case; the answers are framed alike
 reference vectors stream                       the stored list of calls as bytes (src/vectors.rs says the format)
 reference vectors text < stream                what crates/vectors must print for such bytes
 reference cases SEED COUNT KIND DIR|-          cases as files in DIR, or framed to standard output
-    KIND: valid limits damaged changed mixed calls large
+    KIND: valid limits damaged changed mixed calls sets trees large
 reference case SEED INDEX KIND                 one of these cases to standard output
 reference limits                               how many limits there are: so many cases of that kind have all
 reference large                                the same of the faults in large files
@@ -67,6 +69,7 @@ fn main() -> ExitCode {
 fn run(words: &[&str]) -> Result<(), Failure> {
     match *words {
         ["levels"] => Ok(write_out(print_levels(&read_in()?).as_bytes())?),
+        ["cut-sets"] => Ok(write_out(print_sets(&read_in()?).as_bytes())?),
         ["calls"] => {
             let (text, understood) = answer_list(&read_in()?);
             write_out(text.as_bytes())?;
@@ -77,6 +80,7 @@ fn run(words: &[&str]) -> Result<(), Failure> {
             }
         }
         ["each", "levels"] => answer_each(print_levels),
+        ["each", "cut-sets"] => answer_each(print_sets),
         ["each", "calls"] => answer_each(|case| answer_list(case).0),
         ["vectors", "stream"] => Ok(write_out(&write_stream(&vector_list()))?),
         ["vectors", "text"] => {
@@ -109,9 +113,9 @@ fn any_kind(word: &str) -> Result<Kind, Failure> {
     parse_kind(word).ok_or(Failure::Usage)
 }
 
-/// Lists of calls are no input of a level printer, and no case shows no difference.
+/// Lists of calls and lone trees are no input of a level printer, and no case shows no difference.
 fn compare_cases(cases: Cases, program: &[&str]) -> Result<(), Failure> {
-    if cases.kind == Kind::Calls || cases.count == 0 {
+    if !is_input(cases.kind) || cases.count == 0 {
         return Err(Failure::Usage);
     }
     let outcome = compare(cases, program)?;

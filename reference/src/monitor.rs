@@ -86,10 +86,15 @@ fn judge_held<'a>(state: State, stores: Stores<'a>, level: Level) -> Result<(Tre
     refuse_if(!level.in_range(), 13, 0)?;
     refuse_if(state.tree_length == 0, 21, 0)?;
     refuse_if(state.sheet_length == 0, 22, 0)?;
-    let tree = held(stores.tree, state.tree_length).and_then(|file| judge_tree(file).ok()).ok_or(refused(23, 0))?;
+    let tree = held_tree(state, stores.tree)?;
     let sheet = held(stores.sheet, state.sheet_length).and_then(|file| judge_sheet(file).ok()).ok_or(refused(23, 1))?;
     refuse_if(tree.number() != sheet.number() || tree.events != sheet.events, 24, 0)?;
     Ok((tree, sheet))
+}
+
+/// The held tree as its bytes stand: refusal 23.
+pub fn held_tree(state: State, store: &[u8]) -> Result<Tree<'_>, Refusal> {
+    held(store, state.tree_length).and_then(|file| judge_tree(file).ok()).ok_or(refused(23, 0))
 }
 
 /// The held bytes, or nothing where the held length is beyond the store.

@@ -12,6 +12,8 @@
 //!   7 drop
 //!   8 judge        k, n
 //!   9 question     k, n, places of lower, of upper and of marks
+//!  10 count
+//!  11 cut sets     places
 //!
 //! What is printed is the text of `calls` in its short form.
 
@@ -25,6 +27,7 @@ pub const TREE_ROOM: usize = 7_200;
 pub const SHEET_ROOM: usize = 17_500;
 pub const FILE_ROOM: usize = 17_500;
 pub const SLICE_ROOM: usize = 1_100;
+pub const SET_ROOM: usize = 4_096;
 pub const MOST_CALLS: usize = 100_000;
 
 /// A byte and five numbers.
@@ -47,6 +50,8 @@ fn call_bytes(call: &Call) -> Vec<u8> {
         Call::Question(level, [lower, upper, marks]) => {
             head(9, &[level.k, level.n, *lower as u32, *upper as u32, *marks as u32])
         }
+        Call::Count => head(10, &[]),
+        Call::CutSets(places) => head(11, &[*places as u32]),
     }
 }
 
@@ -87,6 +92,8 @@ fn read_call(stream: &[u8]) -> Option<(Call, &[u8])> {
         7 => Call::Drop,
         8 => Call::Judge(level),
         9 => Call::Question(level, [length(2, SLICE_ROOM)?, length(3, SLICE_ROOM)?, length(4, SLICE_ROOM)?]),
+        10 => Call::Count,
+        11 => Call::CutSets(length(0, SET_ROOM)?),
         _ => return None,
     };
     Some((call, rest))

@@ -7,8 +7,6 @@
 //! Run at the repository's root, after `rt staticlib capi`:
 //!     cargo run --release --offline --manifest-path examples/rust/Cargo.toml -- TREE SHEET K N
 
-mod nekbrod;
-
 use nekbrod::{End, Level, Monitor, Refusal};
 use std::ffi::OsString;
 use std::io::{self, Write};

@@ -71,6 +71,34 @@ impl Monitor {
         answer.refusal.unless_none()
     }
 
+    /// How many minimal cut sets the held tree has; no sheet is needed.
+    pub fn count_cut_sets(&self) -> Result<u64, Refusal> {
+        // SAFETY: the store is lent with its length, and nothing is written.
+        let counted = unsafe { nekbrod_count_cut_sets(self.state, self.tree_store.as_ptr(), self.tree_store.len()) };
+        counted.refusal.unless_none()?;
+        Ok(counted.count)
+    }
+
+    /// Each minimal cut set of the held tree once, bit i for basic event i, in no promised order. It needs memory for
+    /// as many as `count_cut_sets` says.
+    pub fn cut_sets(&mut self) -> Result<Vec<u64>, Refusal> {
+        let mut sets = vec![0; self.count_cut_sets()? as usize];
+        // SAFETY: both are vectors of their own, lent with their lengths.
+        let listing = unsafe {
+            nekbrod_list_cut_sets(
+                self.state,
+                self.tree_store.as_ptr(),
+                self.tree_store.len(),
+                sets.as_mut_ptr(),
+                sets.len(),
+            )
+        };
+        self.state = listing.state;
+        listing.refusal.unless_none()?;
+        sets.truncate(listing.count as usize);
+        Ok(sets)
+    }
+
     /// Level k of n of the held pair.
     pub fn question(&mut self, k: u32, n: u32) -> Result<Level, Refusal> {
         // SAFETY: all five are vectors of their own, lent with their lengths.
@@ -136,6 +164,19 @@ struct Reply {
     events: usize,
 }
 
+#[repr(C)]
+struct SetCount {
+    refusal: Refusal,
+    count: u64,
+}
+
+#[repr(C)]
+struct Listing {
+    state: State,
+    refusal: Refusal,
+    count: u64,
+}
+
 extern "C" {
     fn nekbrod_hand_in_tree(
         state: State,
@@ -166,4 +207,12 @@ extern "C" {
         marks: *mut u8,
         marks_len: usize,
     ) -> Reply;
+    fn nekbrod_count_cut_sets(state: State, tree_store: *const u8, tree_store_len: usize) -> SetCount;
+    fn nekbrod_list_cut_sets(
+        state: State,
+        tree_store: *const u8,
+        tree_store_len: usize,
+        sets: *mut u64,
+        sets_len: usize,
+    ) -> Listing;
 }

@@ -1,5 +1,6 @@
 //! Lists of calls: files good and bad, stores and slices at their least length and around it, changed bytes and states.
 
+use super::set_trees::{set_count, set_tree};
 use super::sheet_damage::SHEET_DAMAGES;
 use super::tree_damage::TREE_DAMAGES;
 use super::valid::{any_pair, small_tree, Pair};
@@ -26,6 +27,23 @@ pub fn call_list(random: &mut Random) -> String {
     }
     for _ in 0..writer.random.between(6, 16) {
         writer.any_line();
+    }
+    writer.list
+}
+
+/// The slice of a list has up to this many places.
+const MOST_SETS: u64 = 4_000;
+
+/// Counts and lists of minimal cut sets, with a sheet or with none.
+pub fn set_list(random: &mut Random) -> String {
+    let trees = [set_tree(random), small_tree(random, 12)];
+    let pairs = trees.map(|nodes| any_pair(random, nodes));
+    let mut writer = Writer { random, pairs, tree_store: 0, sheet_store: 0, list: String::new() };
+    if writer.random.percent(80) {
+        writer.set_start();
+    }
+    for _ in 0..writer.random.between(4, 12) {
+        writer.any_set_line();
     }
     writer.list
 }
@@ -69,6 +87,38 @@ impl Writer<'_> {
                 self.question(nodes);
             }
         }
+    }
+
+    /// A store that suffices and the tree of a pair in it, counted and listed.
+    fn set_start(&mut self) {
+        let tree = self.pair().tree();
+        let spare = *self.random.pick(&[0, 1, 30]);
+        self.stores(tree.len() + spare, 0);
+        self.line(format!("tree {}", hex_text(&tree)));
+        self.line("count".to_string());
+        self.cut_sets();
+    }
+
+    fn any_set_line(&mut self) {
+        match self.random.below(20) {
+            0 => self.any_stores(),
+            1..=3 => self.hand_in_tree(),
+            4 => self.hand_in_sheet(),
+            5 => self.line("drop".to_string()),
+            6 | 7 => self.poke(),
+            8 => self.any_state(),
+            9..=11 => self.line("count".to_string()),
+            _ => self.cut_sets(),
+        }
+    }
+
+    /// A slice about as long as the number of sets of a pair's tree, where that is not too many.
+    fn cut_sets(&mut self) {
+        let places = match set_count(&self.pair().nodes).filter(|&count| count <= MOST_SETS) {
+            Some(count) => self.near(count as usize),
+            None => *self.random.pick(&[0, 1, 64, MOST_SETS as usize]),
+        };
+        self.line(format!("cut-sets {places}"));
     }
 
     fn stores(&mut self, tree: usize, sheet: usize) {

@@ -1,4 +1,4 @@
-//! Generated cases: inputs of the level printer, and lists of calls.
+//! Generated cases: inputs of the level printer, lists of calls, and tree files.
 
 pub mod case;
 pub mod trees;
@@ -6,6 +6,7 @@ pub mod sheets;
 pub mod valid;
 pub mod limits;
 pub mod tree_damage;
+pub mod set_trees;
 pub mod sheet_damage;
 pub mod pair_damage;
 pub mod damaged;
@@ -30,17 +31,23 @@ pub enum Kind {
     Mixed,
     /// Lists of calls.
     Calls,
+    /// Lists of calls, most of them about minimal cut sets.
+    Sets,
+    /// Tree files for minimal cut sets, one in four with a fault.
+    Trees,
     /// One known fault each in the largest trees and sheets, at the first, middle and last places.
     Large,
 }
 
-pub const KINDS: [(&str, Kind); 7] = [
+pub const KINDS: [(&str, Kind); 9] = [
     ("valid", Kind::Valid),
     ("limits", Kind::Limits),
     ("damaged", Kind::Damaged),
     ("changed", Kind::Changed),
     ("mixed", Kind::Mixed),
     ("calls", Kind::Calls),
+    ("sets", Kind::Sets),
+    ("trees", Kind::Trees),
     ("large", Kind::Large),
 ];
 
@@ -61,6 +68,8 @@ pub fn write_case(kind: Kind, seed: u64, index: u64) -> Vec<u8> {
         Kind::Damaged => damaged::damaged_case(random, index).bytes,
         Kind::Changed => changed::changed_input(random),
         Kind::Calls => call_lists::call_list(random).into_bytes(),
+        Kind::Sets => call_lists::set_list(random).into_bytes(),
+        Kind::Trees => set_trees::tree_case(random, index),
         Kind::Mixed => mixed_case(random, index),
         Kind::Large => large_damage::large_case(random, index).bytes,
     }
@@ -77,7 +86,16 @@ fn mixed_case(random: &mut Random, index: u64) -> Vec<u8> {
     }
 }
 
+/// Whether the cases are inputs of the level printer.
+pub fn is_input(kind: Kind) -> bool {
+    !matches!(kind, Kind::Calls | Kind::Sets | Kind::Trees)
+}
+
 pub fn file_name(kind: Kind, index: u64) -> String {
-    let ending = if kind == Kind::Calls { "calls" } else { "input" };
+    let ending = match kind {
+        Kind::Calls | Kind::Sets => "calls",
+        Kind::Trees => "ftf",
+        _ => "input",
+    };
     format!("{index:06}.{ending}")
 }

@@ -1,15 +1,17 @@
 //! The stored list of calls that crates/vectors runs: document 01's table, each limit and one past it, each refusal
-//! with what is left after it, changed stores and states, many questions on one pair, and generated lists.
+//! with what is left after it, changed stores and states, many questions on one pair, and generated lists; then the
+//! same for minimal cut sets.
 
-use super::call_lists::call_list;
+use super::call_lists::{call_list, set_list};
 use super::changed::changed_input;
+use super::set_trees::{and_of_ors, set_count, stretched, two_levels, under_gates, with_set, GateOf};
 use super::sheet_damage::SHEET_DAMAGES;
 use super::sheets::{any_four, any_opinions};
 use super::tree_damage::TREE_DAMAGES;
 use super::trees::{chain, comb, count_events, most_events, one_gate};
 use super::valid::{any_pair, lively_pair, small_tree, valid_case, Pair};
 use crate::bytes::{read_16, write_16};
-use crate::calls::{parse_call, Call};
+use crate::calls::{parse_call, Call, SET_FILL};
 use crate::cut::Level;
 use crate::describe::{same, Entry, Node};
 use crate::end::U;
@@ -19,6 +21,7 @@ use crate::monitor::State;
 use crate::opinion_sheet;
 use crate::random::Random;
 use crate::tree_file;
+use crate::vectors::SET_ROOM;
 
 const SEED: u64 = 2_026;
 
@@ -40,6 +43,10 @@ pub fn vector_list() -> Vec<Call> {
     list.many_questions();
     list.generated_pairs();
     list.generated_lists();
+    list.set_limits();
+    list.set_refusals();
+    list.set_changes();
+    list.generated_sets();
     list.calls
 }
 
@@ -439,6 +446,159 @@ impl List {
     fn generated_lists(&mut self) {
         for index in 0..100 {
             let list = call_list(&mut Random::for_case(SEED + 4, index));
+            self.fresh(0, 0);
+            self.calls.extend(list.lines().map(|line| parse_call(line).expect("a line of a list")));
+        }
+    }
+
+    /// A tree alone, since no sheet is needed, its count, and slices of exactly that many places and around it.
+    fn sets_of(&mut self, nodes: Vec<Node>) {
+        let count = set_count(&nodes);
+        self.tree_alone(nodes);
+        self.calls.push(Call::Count);
+        let room = SET_ROOM as u64;
+        match count {
+            Some(count) if count <= room => {
+                for places in [count - 1, count, (count + 1).min(room)] {
+                    self.calls.push(Call::CutSets(places as usize));
+                }
+            }
+            _ => self.calls.push(Call::CutSets(SET_ROOM)),
+        }
+    }
+
+    fn tree_alone(&mut self, nodes: Vec<Node>) {
+        let tree = plain_pair(nodes, 5).tree();
+        self.fresh(tree.len() + 2, 0);
+        self.calls.push(Call::Tree(tree));
+    }
+
+    /// The least trees, the most events, the largest counts, the deepest chains.
+    fn set_limits(&mut self) {
+        self.sets_of(vec![Node::Event]);
+        let kinds: [(GateOf, GateOf); 2] = [(Node::And, Node::Or), (Node::Or, Node::And)];
+        for (gate, other) in kinds {
+            for inputs in [1, 2, 16] {
+                let mut nodes = vec![Node::Event; inputs];
+                nodes.push(gate((0..inputs as u16).collect()));
+                self.sets_of(nodes);
+            }
+            // Events 31, 32 and 63 alone or with all others.
+            for events in [32, 33, 63, 64, 65] {
+                self.sets_of(two_levels(gate, gate, &[events]));
+            }
+            // 64 events under one root, sixteen to a gate: 65,536 sets or 4.
+            self.sets_of(two_levels(gate, other, &[16; 4]));
+        }
+        for nodes in [road_trip().nodes, fuel_supply().nodes, container_seal().nodes] {
+            self.sets_of(nodes);
+        }
+        // 4,095, 4,096 and 4,097 sets.
+        self.sets_of(and_of_ors(&[3, 3, 5, 7, 13]));
+        self.sets_of(and_of_ors(&[16; 3]));
+        let mut nodes = and_of_ors(&[16; 3]);
+        let below = nodes.len() as u16 - 1;
+        nodes.extend([Node::Event, Node::Or(vec![below, below + 1])]);
+        self.sets_of(nodes);
+        // 2 to the 32nd, 3 to the 21st, and the most that 64 events can have.
+        self.sets_of(and_of_ors(&[4; 16]));
+        self.sets_of(and_of_ors(&[3; 21]));
+        self.sets_of(and_of_ors(&[&[4][..], &[3; 20]].concat()));
+        // A set like what the slice held before.
+        self.sets_of(with_set(SET_FILL));
+        let longest = chain(&mut self.random, tree_file::MOST_NODES);
+        self.sets_of(longest);
+        let chained = under_gates(&mut self.random, and_of_ors(&[2, 3]), 900);
+        self.sets_of(chained);
+        for nodes in [950, tree_file::MOST_NODES] {
+            let nodes = stretched(&mut self.random, nodes);
+            self.sets_of(nodes);
+        }
+        let deepest = comb(&mut self.random, 64);
+        self.sets_of(deepest);
+        for nodes in [most_events(&mut self.random, tree_file::MOST_NODES), comb(&mut self.random, 512)] {
+            self.sets_of(nodes);
+        }
+    }
+
+    fn count_and_list(&mut self, places: usize) {
+        self.calls.push(Call::Count);
+        self.calls.push(Call::CutSets(places));
+    }
+
+    /// 21, 23, 26 and 27, each before those that come after it; 22 is none of them.
+    fn set_refusals(&mut self) {
+        let pair = road_trip();
+        let (tree, sheet) = (pair.tree(), pair.sheet());
+        self.fresh(0, 0);
+        self.count_and_list(0);
+        self.count_and_list(3);
+        self.fresh(tree.len(), sheet.len());
+        self.calls.push(Call::Sheet(sheet.clone()));
+        self.count_and_list(2);
+        self.calls.push(Call::Tree(tree.clone()));
+        for places in 0..5 {
+            self.calls.push(Call::CutSets(places));
+        }
+        self.calls.push(Call::PokeSheet(0, 0));
+        self.count_and_list(2);
+        self.calls.push(Call::Drop);
+        self.count_and_list(2);
+        // Too many events, held bytes that are no file, and a slice with no places, at once and one by one.
+        let many = two_levels(Node::Or, Node::And, &[16, 16, 16, 17]);
+        let length = plain_pair(many.clone(), 5).tree().len();
+        self.tree_alone(many);
+        self.count_and_list(0);
+        self.count_and_list(4);
+        self.calls.push(Call::PokeTree(0, 0));
+        self.count_and_list(0);
+        self.count_and_list(4);
+        self.held(0, 0);
+        self.count_and_list(0);
+        self.held(length, 0);
+        self.calls.push(Call::PokeTree(0, b'F'));
+        self.calls.push(Call::Stores(length - 1, 0));
+        self.count_and_list(0);
+        // 64 events: the same tree without one of them.
+        self.tree_alone(two_levels(Node::Or, Node::And, &[16; 4]));
+        self.count_and_list(0);
+        self.calls.push(Call::PokeTree(2, 0));
+        self.count_and_list(3);
+    }
+
+    /// Each byte of the held tree changed and changed back, and held lengths within the store and beyond it.
+    fn set_changes(&mut self) {
+        let tree = road_trip().tree();
+        self.tree_alone(road_trip().nodes);
+        self.held(tree.len(), 0);
+        for (place, &byte) in tree.iter().enumerate() {
+            for changed in [byte ^ 1, byte ^ 3] {
+                self.calls.push(Call::PokeTree(place as u32, changed));
+                self.calls.push(Call::CutSets(4));
+            }
+            self.calls.push(Call::PokeTree(place as u32, byte));
+        }
+        for tree_length in [1, tree.len() - 1, tree.len() + 1, tree.len() + 2, tree.len() + 3, u32::MAX as usize] {
+            for sheet_length in [0, u32::MAX as usize] {
+                self.held(tree_length, sheet_length);
+                self.count_and_list(2);
+            }
+        }
+        self.held(tree.len(), u32::MAX as usize);
+        for store in [tree.len() - 1, tree.len(), 0, 7_200] {
+            self.calls.push(Call::Stores(store, 0));
+            self.count_and_list(2);
+        }
+    }
+
+    fn generated_sets(&mut self) {
+        for index in 0..24 {
+            let random = &mut Random::for_case(SEED + 5, index);
+            let nodes = small_tree(random, 40);
+            self.sets_of(nodes);
+        }
+        for index in 0..16 {
+            let list = set_list(&mut Random::for_case(SEED + 6, index));
             self.fresh(0, 0);
             self.calls.extend(list.lines().map(|line| parse_call(line).expect("a line of a list")));
         }

@@ -1,6 +1,7 @@
 //! The text of a list of calls.
 
-use reference::calls::run_calls;
+use reference::calls::{run_calls, SET_FILL};
+use reference::cases::set_trees::{join, with_set};
 use reference::describe::{sheet_bytes, tree_bytes, Entry, Node};
 use reference::hex::hex_text;
 
@@ -28,6 +29,36 @@ fn every_kind_of_line() {
     assert_eq!(run_calls(&list), (expected, true));
 }
 
+/// By hand: all bits from 2 on with bit 0 or bit 1 are 2^64 - 3 and 2^64 - 2. Modulo 4294967291, where 2^32 is 5, these
+/// are 22 and 23.
+#[test]
+fn sets_are_summed() {
+    let mut nodes = vec![Node::Event; 64];
+    let one = join(&mut nodes, Node::Or, vec![0, 1]);
+    let others = join(&mut nodes, Node::And, (2..64).collect());
+    join(&mut nodes, Node::And, vec![one, others]);
+    let tree = hex_text(&tree_bytes(7, &nodes));
+    let length = tree.len() / 2;
+    let list = format!("stores {length} 0\ntree {tree}\ncount\ncut-sets 5\ncut-sets 1\n");
+    let after = format!("state {length} 0\ntree {tree}\nsheet -\n");
+    let expected = [
+        format!("accepted\n{after}"),
+        format!("cut sets 2\n{after}"),
+        format!("cut sets 2\n{after}sets 5 45 1013 left 3\n"),
+        format!("refused 27 at 0\n{after}sets 1 0 0 left 1\n"),
+    ];
+    assert_eq!(run_calls(&list), (expected.concat(), true));
+}
+
+/// A listed set like what the slice held before is no place left.
+#[test]
+fn set_like_the_fill() {
+    let tree = hex_text(&tree_bytes(7, &with_set(SET_FILL)));
+    let (text, _) = run_calls(&format!("stores {} 0\ntree {tree}\ncut-sets 17\ncut-sets 19\n", tree.len() / 2));
+    let sets: Vec<&str> = text.lines().filter(|line| line.starts_with("sets ")).collect();
+    assert!(sets.len() == 2 && sets[0].ends_with(" left 0") && sets[1].ends_with(" left 2"), "{sets:?}");
+}
+
 #[test]
 fn lines_that_are_none() {
     let lines = [
@@ -50,6 +81,11 @@ fn lines_that_are_none() {
         "question 1 2 3 4",
         "question 1 2 3 4 65537",
         "tree \u{fffd}\u{fffd}",
+        "count ",
+        "count 1",
+        "cut-sets",
+        "cut-sets 65537",
+        "cut sets 1",
     ];
     for line in lines {
         let list = format!("stores 0 0\n{line}\ndrop\n");

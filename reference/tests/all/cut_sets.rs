@@ -7,7 +7,7 @@ use reference::describe::Node;
 use reference::random::Random;
 
 /// Whether each node fails when the events of the set failed.
-fn failing(nodes: &[Node], set: u32) -> Vec<bool> {
+pub fn failing(nodes: &[Node], set: u64) -> Vec<bool> {
     let mut fails: Vec<bool> = Vec::new();
     let mut event = 0;
     for node in nodes {
@@ -25,8 +25,8 @@ fn failing(nodes: &[Node], set: u32) -> Vec<bool> {
 }
 
 /// The set of events at or beneath each node.
-fn beneath(nodes: &[Node]) -> Vec<u32> {
-    let mut sets: Vec<u32> = Vec::new();
+pub fn beneath(nodes: &[Node]) -> Vec<u64> {
+    let mut sets: Vec<u64> = Vec::new();
     let mut event = 0;
     for node in nodes {
         let set = match node {
@@ -45,7 +45,7 @@ fn beneath(nodes: &[Node]) -> Vec<u32> {
 fn unreliability(nodes: &[Node], node: usize, probabilities: &[(u128, u128)]) -> (u128, u128) {
     let events = beneath(nodes)[node];
     let mut sum = 0;
-    for set in 0..1u32 << probabilities.len() {
+    for set in 0..1u64 << probabilities.len() {
         if set & !events != 0 || !failing(nodes, set)[node] {
             continue;
         }

@@ -1,6 +1,7 @@
 //! A monitor with its lent memory, which sees to it that a refusal changes nothing.
 
 use reference::cut::Level;
+use reference::cut_sets::{count_sets, list_sets};
 use reference::describe::{sheet_bytes, tree_bytes, Entry, Node};
 use reference::end::End;
 use reference::evaluation::WorkSlices;
@@ -89,6 +90,20 @@ impl Desk {
         if outcome.is_err() {
             assert_eq!(*work, before);
         }
+        outcome
+    }
+
+    pub fn count_sets(&self) -> Result<u64, Refusal> {
+        count_sets(self.state, &self.tree_store)
+    }
+
+    /// Places from the count on stay, and all where it is refused.
+    pub fn list_sets(&self, sets: &mut [u64]) -> Result<u64, Refusal> {
+        let before = sets.to_vec();
+        let (state, outcome) = list_sets(self.state, &self.tree_store, sets);
+        assert_eq!(state, self.state);
+        let written = outcome.unwrap_or(0) as usize;
+        assert_eq!(sets[written..], before[written..]);
         outcome
     }
 

@@ -10,6 +10,7 @@ use reference::cases::{write_case, Kind, KINDS};
 use reference::framing::{frame, split_frames};
 use reference::levels::print_levels;
 use reference::random::Random;
+use reference::set_lines::print_sets;
 use std::collections::BTreeSet;
 
 fn check(case: &Case, index: u64) {
@@ -81,16 +82,43 @@ fn damaged_cases_have_every_refusal_of_the_printer() {
     assert_eq!(seen, BTreeSet::from([1, 2, 3, 4, 5, 6, 7, 8, 9, 10, 11, 12, 13, 24]));
 }
 
-#[test]
-fn call_lists_have_every_refusal() {
+/// The refusals of so many lists of calls, all of which are understood.
+fn list_refusals(kind: Kind, count: u64) -> BTreeSet<u32> {
     let mut seen = BTreeSet::new();
-    for index in 0..1_500 {
-        let list = String::from_utf8(write_case(Kind::Calls, 13, index)).unwrap();
+    for index in 0..count {
+        let list = String::from_utf8(write_case(kind, 13, index)).unwrap();
         let (text, understood) = run_calls(&list);
         assert!(understood, "{list}");
         seen.extend(refusals(&text));
     }
-    assert_eq!(seen, (1..=13).chain(20..=25).collect());
+    seen
+}
+
+#[test]
+fn call_lists_have_every_refusal() {
+    assert_eq!(list_refusals(Kind::Calls, 1_500), (1..=13).chain(20..=25).collect());
+}
+
+#[test]
+fn set_lists_have_every_refusal_of_theirs() {
+    let seen = list_refusals(Kind::Sets, 500);
+    assert!([21, 23, 26, 27].iter().all(|number| seen.contains(number)), "{seen:?}");
+    assert!(![13, 22, 24, 25].iter().any(|number| seen.contains(number)), "{seen:?}");
+}
+
+/// Few sets and many, above 10^9 too, and faults.
+#[test]
+fn tree_cases_have_counts_of_every_size() {
+    let mut sizes = BTreeSet::new();
+    let mut seen = BTreeSet::new();
+    for index in 0..1_000 {
+        let text = print_sets(&write_case(Kind::Trees, 15, index));
+        seen.extend(refusals(&text));
+        let count = text.lines().next().unwrap().split_once(" cut sets ").map(|(_, count)| count.len());
+        sizes.extend(count);
+    }
+    assert_eq!(seen, (1..=9).chain([26]).collect());
+    assert_eq!(sizes, (1..=10).collect());
 }
 
 #[test]

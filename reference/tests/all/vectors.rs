@@ -16,6 +16,9 @@ fn every_kind() -> Vec<Call> {
         Call::Sheet(sheet_bytes(7, &[], &[same(5)])),
         Call::Judge(Level { k: 1, n: 2 }),
         Call::Question(Level { k: 1, n: 2 }, [1, 8, 17]),
+        Call::Count,
+        Call::CutSets(0),
+        Call::CutSets(4_096),
         Call::Held(State { tree_length: 3, sheet_length: 4 }),
         Call::Drop,
     ]
@@ -44,6 +47,9 @@ fn short_text() {
         format!("lower 5 = upper 5 = events 1\nstate 14 43\n{tree}{held}"),
         format!("lower 5\nupper 5{}\n", " 4000000002".repeat(7)),
         format!("marks 17 3..238 {}\n", sum(&marks)),
+        format!("cut sets 1\nstate 14 43\n{tree}{held}"),
+        format!("refused 27 at 0\nstate 14 43\n{tree}{held}sets 0 0 0 left 0\n"),
+        format!("cut sets 1\nstate 14 43\n{tree}{held}sets 4096 1 1 left 4095\n"),
         format!("dropped\nstate 0 0\n{tree}{held}"),
     ];
     assert_eq!(stream_text(&write_stream(&every_kind())), Some(expected.concat()));
@@ -70,20 +76,22 @@ fn streams_that_are_none() {
         vec![Call::Stores(0, 17_501)],
         vec![Call::PokeTree(0, 0)],
         vec![Call::Question(Level { k: 1, n: 2 }, [0, 0, 1_101])],
+        vec![Call::CutSets(4_097)],
     ] {
         assert_eq!(stream_text(&write_stream(&calls)), None, "{calls:?}");
     }
 }
 
-/// Each refusal of document 01 is met, and so is every kind of answer.
+/// Each refusal is met, and so is every kind of answer.
 #[test]
 fn every_answer() {
     let mut desk = Desk::new(Form::Short);
     let text: String = vector_list().iter().map(|call| desk.run(call).unwrap()).collect();
-    for number in (1..=13).chain(20..=25) {
+    for number in (1..=13).chain(20..=27) {
         assert!(text.contains(&format!("refused {number} at ")), "{number}");
     }
-    for answer in ["\naccepted\n", "\ndropped\n", "\nnodes 5 events 3\n", "\nrefused 23 at 1\n"] {
+    let answers = ["\naccepted\n", "\ndropped\n", "\nnodes 5 events 3\n", "\nrefused 23 at 1\n"];
+    for answer in answers.into_iter().chain(["\ncut sets 1\n", "\ncut sets 4294967296\n", "\ncut sets 13947137604\n"]) {
         assert!(text.contains(answer), "{answer:?}");
     }
 }
