@@ -25,3 +25,5 @@ numbered rule.NoSheet e = omega arith
 numbered rule.Changed e = omega arith
 numbered rule.OtherTree e = omega arith
 numbered rule.ShortSlice e = omega arith
+numbered rule.ManyEvents e = omega arith
+numbered rule.ShortList e = omega arith

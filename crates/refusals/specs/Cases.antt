@@ -1,4 +1,5 @@
--- Document 01's order read out: the turns of a tree file, of a sheet and of a question, each before the next.
+-- Document 01's order read out: the turns of a tree file, of a sheet and of a question, each before the next; then
+-- those of the list of minimal cut sets.
 use mathlib.Core.Path.{refl}
 use mathlib.Core.List.{List, [], _∷_}
 use lib.Dec.{lit<}
@@ -110,6 +111,22 @@ question-rises =
     then by-stage (lit< tt)
     then by-stage (lit< tt)
     then by-place refl (lit< tt)
+    then by-stage (lit< tt)
+    then by-stage (lit< tt)
+    then last
+
+-- The list of minimal cut sets: 21, 23 of the tree, 26, 27 (02, request 1).
+abbrev pub listing-turns : List Refusal
+listing-turns =
+    refusal rule.NoTree 0
+    ∷ refusal rule.Changed 0
+    ∷ refusal rule.ManyEvents 0
+    ∷ refusal rule.ShortList 0
+    ∷ []
+
+pub listing-rises : Rising listing-turns
+listing-rises =
+    by-stage (lit< tt)
     then by-stage (lit< tt)
     then by-stage (lit< tt)
     then last

@@ -1,4 +1,5 @@
--- The number that document 01 gives each rule: 1 to 13 from the input, 20 to 25 from the state.
+-- The number of each rule: in document 01 1 to 13 are from the input and 20 to 25 from the state; 26 and 27, of the list
+-- of cut sets, are in document 02.
 use Prim.Native.Nat.{ℕ}
 use Rattle.refusals.specs.declared.rule.Rule.{Rule}
 use Rattle.refusals.specs.declared.rule.Rule.the-variants as rule
@@ -23,3 +24,5 @@ number-of rule.NoSheet = 22
 number-of rule.Changed = 23
 number-of rule.OtherTree = 24
 number-of rule.ShortSlice = 25
+number-of rule.ManyEvents = 26
+number-of rule.ShortList = 27

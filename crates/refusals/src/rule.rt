@@ -1,4 +1,4 @@
-// The rules that a call can be refused by, each with document 01's number.
+// The rules that a call can be refused by, each with its number in document 01, and from 26 on in document 02.
 ghost use mathlib.Core.Path.{_≡_};
 ghost use Rattle.refusals.specs.Number.{number-of};
 
@@ -42,9 +42,13 @@ pub enum Rule {
     OtherTree,
     // A work slice is shorter than the tree.
     ShortSlice,
+    // The tree has more basic events than the number of a cut set has bits.
+    ManyEvents,
+    // The lent slice is shorter than the number of minimal cut sets.
+    ShortList,
 }
 
-// The rule's number in document 01.
+// The rule's number.
 pub fn rule_number(rule: Rule) -> usize
     ensures { λ r. ⌜ r ≡ number-of rule ⌝ }
 {
@@ -68,5 +72,7 @@ pub fn rule_number(rule: Rule) -> usize
         Rule::Changed => 23,
         Rule::OtherTree => 24,
         Rule::ShortSlice => 25,
+        Rule::ManyEvents => 26,
+        Rule::ShortList => 27,
     }
 }
