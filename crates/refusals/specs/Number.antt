@@ -1,5 +1,5 @@
--- The number of each rule: in document 01 1 to 13 are from the input and 20 to 25 from the state; 26 and 27, of the list
--- of cut sets, are in document 02.
+-- The number of each rule: in document 01, 1 to 13 are from the input and 20 to 25 from the state; in document 02, 26
+-- and 27 are of the list of minimal cut sets.
 use Prim.Native.Nat.{ℕ}
 use Rattle.refusals.specs.declared.rule.Rule.{Rule}
 use Rattle.refusals.specs.declared.rule.Rule.the-variants as rule

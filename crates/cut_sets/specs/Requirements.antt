@@ -1,0 +1,114 @@
+-- What the functions inside this crate ask of each other and answer: the counts of nodes at their places, and the sets that
+-- they number.
+use Prim.Native.Nat.{ℕ, zero, suc, _+_, _-_, _*_, _≤_, _<_}
+use mathlib.Core.Path.{_≡_}
+use mathlib.Core.List.{List, [], _∷_}
+use lib.ListN.{length, getD, drop}
+use Rattle.theory.specs.FaultTree.{GateKind, all, any}
+use Rattle.theory.specs.NodeTable.{Owns}
+use Rattle.theory.specs.MinimalCutSets.{Family, Same-set}
+use Rattle.theory.specs.CutSetFamily.{alternatives, gate-family, family}
+use Rattle.tree_file.specs.Format.{link, link-count, node-count}
+use Rattle.tree_file.specs.Tallies.{event-count}
+use Rattle.tree_file.specs.WellFormed.{WellFormed}
+use Rattle.tree_file.specs.NodeTable.{fault-tree, table-of}
+use Rattle.tree_file.specs.declared.node.Gate.{Gate}
+use Rattle.cut_sets.specs.Numbers.{members}
+use Rattle.cut_sets.specs.Judged.{most-events}
+use Rattle.cut_sets.specs.declared.choice.Choice.{Choice}
+
+-- The number of sets of a gate without inputs.
+abbrev pub neutral-count : GateKind → ℕ
+neutral-count k = gate-family k [] .count
+
+-- The number of sets of a gate with one input more.
+abbrev pub joined-count : GateKind → ℕ → ℕ → ℕ
+joined-count all total count = total * count
+joined-count any total count = total + count
+
+-- The sets of node i, numbered.
+abbrev pub node-sets : List ℕ → ℕ → Family
+node-sets tree i = family (fault-tree tree i)
+
+-- The sets of each of the m nodes that links name, from link a on.
+abbrev pub linked-sets : List ℕ → ℕ → ℕ → List Family
+linked-sets tree a zero = []
+linked-sets tree a (suc m) = node-sets tree (link tree a) ∷ linked-sets tree (suc a) m
+
+-- The sets of each of the nodes that the links from a up to b name, b not included.
+abbrev pub sets-between : List ℕ → ℕ → ℕ → List Family
+sets-between tree a b = linked-sets tree a (b - a)
+
+-- A gate's links are those from its first up to here.
+abbrev pub links-end : Gate → ℕ
+links-end g = g .first + g .inputs
+
+-- The sets of each of a gate's inputs.
+abbrev pub gate-inputs : List ℕ → Gate → List Family
+gate-inputs tree g = sets-between tree (g .first) (links-end g)
+
+-- Link j is one of a gate's.
+abbrev pub Links : Gate → ℕ → Type 0
+Links g j = (g .first ≤ j) × (j < links-end g)
+
+-- Node m is node i or stands beneath it.
+pub data Beneath (tree : List ℕ) : ℕ → ℕ → Type 0 where
+  itself : {i : ℕ} → Beneath tree i i
+  through : {i m : ℕ} (j : ℕ) → Owns (table-of tree) i j → Beneath tree (link tree j) m → Beneath tree i m
+
+-- The place of node m holds its count.
+abbrev pub Right-at : List ℕ → List ℕ → ℕ → Type 0
+Right-at tree counts m = getD counts m 0 ≡ node-sets tree m .count
+
+-- The places of node i and of all nodes beneath it hold their counts.
+abbrev pub Right-beneath : List ℕ → List ℕ → ℕ → Type 0
+Right-beneath tree counts i = (m : ℕ) → Beneath tree i m → Right-at tree counts m
+
+-- A node of a well-formed tree of at most 64 events.
+pub record Small (tree : List ℕ) (i : ℕ) : Type 0 where
+  pub well-formed : WellFormed tree
+  pub few-events : event-count tree ≤ most-events
+  pub inside : i < node-count tree
+
+-- A node, and a place for each node.
+pub record Countable (tree : List ℕ) (i : ℕ) (counts : List ℕ) : Type 0 where
+  pub small : Small tree i
+  pub long : node-count tree ≤ length counts
+
+-- What counting leaves: the counts at and beneath node i, and those that were right before.
+pub record Counted-beneath (tree : List ℕ) (i : ℕ) (before after : List ℕ) : Type 0 where
+  pub right : Right-beneath tree after i
+  pub kept : (m : ℕ) → Right-at tree before m → Right-at tree after m
+
+-- A gate's inputs have their counts at their places.
+pub record Inputs-counted (tree : List ℕ) (g : Gate) (counts : List ℕ) : Type 0 where
+  pub well-formed : WellFormed tree
+  pub links-inside : links-end g ≤ link-count tree
+  pub placed : (j : ℕ) → Links g j → link tree j < length counts
+  pub right : (j : ℕ) → Links g j → Right-at tree counts (link tree j)
+
+-- The input that one of the gate's links names, and the number there of set number r of all inputs.
+pub record Chosen (tree : List ℕ) (g : Gate) (r : ℕ) (c : Choice) : Type 0 where
+  pub by : ℕ
+  pub own : Links g by
+  pub named : c .node ≡ link tree by
+  pub number-below : c .number < node-sets tree (c .node) .count
+  pub same : node-sets tree (c .node) .set (c .number) ≡ alternatives (gate-inputs tree g) .set r
+
+-- Node i with the counts at and beneath it at their places, and the number of one of its sets.
+pub record Listable (tree : List ℕ) (i r : ℕ) (counts : List ℕ) : Type 0 where
+  pub countable : Countable tree i counts
+  pub right : Right-beneath tree counts i
+  pub below : r < node-sets tree i .count
+
+-- Node i with the counts at and beneath it at their places, its own count, and a place for each of its sets.
+pub record Writable (tree : List ℕ) (i count : ℕ) (counts sets : List ℕ) : Type 0 where
+  pub countable : Countable tree i counts
+  pub right : Right-beneath tree counts i
+  pub count-is : count ≡ node-sets tree i .count
+  pub room : count ≤ length sets
+
+-- What writing leaves: place r holds set number r of node i, and every place from the count on is as it was.
+pub record Written (tree : List ℕ) (i count : ℕ) (before after : List ℕ) : Type 0 where
+  pub each : (r : ℕ) → r < count → Same-set (members (getD after r 0)) (node-sets tree i .set r)
+  pub rest : drop count after ≡ drop count before
