@@ -15,13 +15,13 @@ use Rattle.refusals.proofs.FirstFault.{both-absent, first-of-absent, first-of-a
 use Rattle.tree_file.specs.Judged.{fault-of as tree-fault, counts-of as tree-counts}
 use Rattle.tree_file.specs.declared.judgement.Counts.{Counts}
 use Rattle.tree_file.proofs.Accepted.{accepted-well-formed}
-use Rattle.monitor.specs.Standing.{changed, changed-by, held, held-tree, standing, tree-rules, tree-standing}
+use Rattle.monitor.specs.Standing.{changed, changed-by, held, held-tree, tree-rules, tree-standing}
 use Rattle.monitor.specs.Question.{root}
 use Rattle.monitor.specs.declared.state.State.{State}
 use Rattle.monitor.specs.declared.held.Standing.{Standing}
 use Rattle.monitor.specs.declared.held.Standing.the-variants.{Ready, Refused}
 use Rattle.monitor.proofs.Standing.{ready-absent, standing-found}
-use Rattle.cut_sets.specs.Judged.{count-rules, many-events, most-events}
+use Rattle.cut_sets.specs.Judged.{count-rules, count-standing, many-events, most-events}
 use Rattle.cut_sets.specs.Requirements.{Small}
 
 module _ (state : State) (tree-store : List ℕ) where
@@ -39,8 +39,8 @@ module _ (state : State) (tree-store : List ℕ) where
   module _ (found : Standing) (e : found ≡ tree-standing state tree-store) where
     -- 21 and 23
     pub tree-refused : (r : Refusal) → found ≡ Refused r
-        → found ≡ standing (count-rules state tree-store) state tree-store
-    unfolding tree-standing
+        → found ≡ count-standing state tree-store
+    unfolding tree-standing count-standing
     tree-refused r q = q ∙ sym (rw (fault-is (Found r) (standing-found _ _ r (sym e ∙ q))))
 
     module _ (counts : Counts) (q : found ≡ Ready counts) where
@@ -51,14 +51,16 @@ module _ (state : State) (tree-store : List ℕ) where
 
       -- ready with at most 64 events
       pub events-few : counts .events ≤ most-events
-          → Ready counts ≡ standing (count-rules state tree-store) state tree-store
+          → Ready counts ≡ count-standing state tree-store
+      unfolding count-standing
       events-few l =
           let few = le-leb (tree-counts tree .events) most-events (rw (ready-own .1) at l) in
           rw (fault-is Absent (ready-own .0), few) (ap Ready (ready-own .1))
 
       -- 26
       pub events-many : most-events < counts .events
-          → Refused (record { rule = ManyEvents; place = 0 }) ≡ standing (count-rules state tree-store) state tree-store
+          → Refused (record { rule = ManyEvents; place = 0 }) ≡ count-standing state tree-store
+      unfolding count-standing
       events-many l =
           let many = lt-leb (tree-counts tree .events) most-events (rw (ready-own .1) at l) in
           rw (fault-is Absent (ready-own .0), many)
@@ -83,8 +85,9 @@ pub record Ready-tree (state : State) (tree-store : List ℕ) (counts : Counts) 
   pub counts-is : counts ≡ tree-counts (held-tree state tree-store)
 
 module _ (state : State) (tree-store : List ℕ) (counts : Counts)
-    (e : standing (count-rules state tree-store) state tree-store ≡ Ready counts) where
+    (e : count-standing state tree-store ≡ Ready counts) where
   pub ready-tree : Ready-tree state tree-store counts
+  unfolding count-standing
   ready-tree =
       let own = ready-absent _ _ counts e in
       let absent = first-of-absent (count-rules state tree-store) (own .0) in

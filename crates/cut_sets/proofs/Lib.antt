@@ -1,4 +1,5 @@
--- The laws behind the contracts.
+-- The laws behind the contracts: the set of a number; links, and a node's sets by those of its inputs; one turn of
+-- counting, of the choice of an input, of a set and of writing; the judging, and what the two calls answer.
 pub mod Bits
 pub mod Links
 pub mod Families
@@ -6,4 +7,6 @@ pub mod GateCounts
 pub mod CountTurn
 pub mod ChoiceTurn
 pub mod SetTurn
+pub mod WriteTurn
 pub mod Judging
+pub mod Outcomes

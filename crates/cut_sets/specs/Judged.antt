@@ -10,9 +10,10 @@ use Rattle.refusals.specs.declared.refusal.FirstFault.{FirstFault}
 use Rattle.refusals.specs.declared.refusal.FirstFault.the-variants.{Found, Absent}
 use Rattle.tree_file.specs.Tallies.{event-count}
 use Rattle.tree_file.specs.NodeTable.{fault-tree}
-use Rattle.monitor.specs.Standing.{held-tree, tree-rules}
+use Rattle.monitor.specs.Standing.{held-tree, standing, tree-rules}
 use Rattle.monitor.specs.Question.{root}
 use Rattle.monitor.specs.declared.state.State.{State}
+use Rattle.monitor.specs.declared.held.Standing.{Standing}
 use Rattle.cut_sets.specs.declared.outcome.Outcome.{Outcome}
 use Rattle.cut_sets.specs.declared.outcome.Outcome.the-variants.{Counted, Refused}
 use Rattle.cut_sets.specs.declared.list.Reply.{Reply}
@@ -40,6 +41,10 @@ short-list count room = unless (leb count room) ShortList 0
 -- The rules of counting: 21, 23 of the tree, 26.
 abbrev pub count-rules : State → List ℕ → List FirstFault
 count-rules state tree-store = tree-rules state tree-store ++ (many-events (held-tree state tree-store) ∷ [])
+
+-- Whether the sets can be counted: refused by the first of these, or ready with the tree's counts.
+unfoldable pub count-standing : State → List ℕ → Standing
+count-standing state tree-store = standing (count-rules state tree-store) state tree-store
 
 -- The rules of listing into a slice of so many places: 21, 23 of the tree, 26, 27.
 abbrev pub list-rules : State → List ℕ → ℕ → List FirstFault
