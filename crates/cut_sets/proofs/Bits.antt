@@ -31,7 +31,8 @@ power-bit event e (yes h) d =
     rw (none, ne-eqb event e (λ q. omega arith))
 power-bit event e (no h) (yes k) =
     let above : event ≡ suc (event - suc e) + e = omega arith in
-    let parts : 2 ^ event ≡ 2 ^ suc (event - suc e) * 2 ^ e = ap (λ n. 2 ^ n) above ∙ pow-add 2 (suc (event - suc e)) e in
+    let parts : 2 ^ event ≡ 2 ^ suc (event - suc e) * 2 ^ e =
+    ap (λ n. 2 ^ n) above ∙ pow-add 2 (suc (event - suc e)) e in
     let shifted : 2 ^ event / 2 ^ e ≡ 2 ^ (event - suc e) * 2 =
     ap (λ n. n / 2 ^ e) parts ∙ shl-shr (2 ^ suc (event - suc e)) e ∙ pow-suc 2 (event - suc e) in
     rw (shifted, mul-mod-left, ne-eqb event e (λ q. omega arith))

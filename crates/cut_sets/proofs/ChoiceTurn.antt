@@ -97,7 +97,8 @@ module _ {tree : List ℕ} {g : Gate} {counts : List ℕ} (asked : Inputs-counte
     -- it is chosen
     pub input-chosen : rest < getD counts node 0 → Chosen tree g r (record { node = node; number = rest })
     input-chosen l =
-        choosing-here tree (g .first) (links-end g) r j rest s (getD counts node 0) input-right l g refl refl node (n .value)
+        choosing-here tree (g .first) (links-end g) r j rest s (getD counts node 0) input-right l g refl refl node
+        (n .value)
 
     -- it is passed
     pub input-passed : getD counts node 0 ≤ rest

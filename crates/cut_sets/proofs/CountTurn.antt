@@ -5,7 +5,7 @@ use mathlib.Core.List.{List}
 use native.Mathlib.Decide.{decLt, ℕ-discrete}
 use native.Mathlib.Nat.{lt-of-le-of-lt}
 use native.Mathlib.Omega.{arith}
-use lib.ListN.{length, getD, set}
+use lib.ListN.{length, set}
 use lib.Seq.{getD-set-same, getD-set-other}
 use Rattle.theory.specs.FaultTree.{GateKind}
 use Rattle.theory.specs.CutSetFamily.{gate-family}
@@ -111,7 +111,7 @@ module _ {tree : List ℕ} {i : ℕ} {before : List ℕ} (asked : Countable tree
   l = asked .small .inside
 
   -- it has its place
-  pub node-placed : (counts : List ℕ) → length counts ≡ length before → i < length counts
+  node-placed : (counts : List ℕ) → length counts ≡ length before → i < length counts
   node-placed counts n = omega (arith, l, asked .long)
 
   -- a basic event has one set

@@ -89,11 +89,11 @@ event-owns tree i e j q o = rw q at o
 pub count-bound : (tree : List ℕ) (i : ℕ) → Small tree i → node-sets tree i .count < 2 ^ 64
 count-bound tree i s =
     let w = s .well-formed in
-    let table = table-of tree in
+    let once = table-linked-once tree w in
     let few : length (events (fault-tree tree i)) ≤ 64 =
     omega (
       arith,
-      events-few table (rank tree) (table-ranked tree w) (table-numbered tree w) (table-linked-once tree w) i (s .inside),
+      events-few (table-of tree) (rank tree) (table-ranked tree w) (table-numbered tree w) once i (s .inside),
       table-events tree w,
     ) in
     lt-of-lt-of-le (count-fits (fault-tree tree i)) (pow-mono few)

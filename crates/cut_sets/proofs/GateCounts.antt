@@ -1,5 +1,5 @@
 -- A gate's count, input by input: what is reckoned so far, joined with what the other inputs have, is the whole.
-use Prim.Native.Nat.{ℕ, zero, suc, _*_, _≤_, _<_}
+use Prim.Native.Nat.{ℕ, zero, suc, _≤_, _<_}
 use mathlib.Core.Path.{_≡_, refl}
 use mathlib.Core.List.{List, _∷_}
 use native.Mathlib.Nat.{add-assoc, le-refl, mul-assoc, mul-le-mul}

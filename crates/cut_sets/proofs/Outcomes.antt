@@ -25,7 +25,7 @@ use Rattle.monitor.specs.declared.held.Standing.the-variants as standing
 use Rattle.monitor.proofs.Standing.{ready-absent, standing-found}
 use Rattle.cut_sets.specs.Judged.{count-outcome, count-rules, count-standing, list-outcome, list-rules}
 use Rattle.cut_sets.specs.Judged.{outcome-by, reply-of, root-tree, set-count, short-list}
-use Rattle.cut_sets.specs.Listed.{Listed, Sets-left, listed}
+use Rattle.cut_sets.specs.Listed.{Sets-left, listed}
 use Rattle.cut_sets.specs.Requirements.{Small, Written, node-sets}
 use Rattle.cut_sets.specs.declared.outcome.Outcome.{Outcome}
 use Rattle.cut_sets.specs.declared.outcome.Outcome.the-variants.{Counted, Refused}

@@ -1,21 +1,19 @@
 -- A node's set by its number: of a basic event, of an OR by the input chosen, and of an AND input by input.
-use Prim.Native.Nat.{ℕ, _+_, _-_, _*_, _/_, _%_, _^_, _≤_, _<_}
+use Prim.Native.Nat.{ℕ, _+_, _*_, _/_, _%_, _^_, _≤_, _<_}
 use mathlib.Core.Path.{_≡_, refl, sym, ap, _∙_}
 use mathlib.Core.Bool.{Bool, true, false, _||_}
 use mathlib.Core.List.{List, _∷_}
-use native.Mathlib.Nat.{div-lt-iff-lt-mul, lt-of-lt-of-le, mod-lt, mul-comm}
+use native.Mathlib.Nat.{div-lt-iff-lt-mul, mod-lt, mul-comm}
 use native.Mathlib.Omega.{arith}
 use lib.Bits.{bitOr}
 use lib.ListN.{length, getD}
-use Rattle.theory.specs.FaultTree.{all, any}
-use Rattle.theory.specs.Unreliability.{EventSet, empty-set}
 use Rattle.theory.specs.MinimalCutSets.{Same-set}
-use Rattle.theory.specs.CutSetFamily.{alternatives, gate-family, union, unions}
+use Rattle.theory.specs.CutSetFamily.{alternatives, union, unions}
 use Rattle.theory.proofs.CutSetCount.{count-positive}
 use Rattle.fields.specs.Fields.{Is16}
 use Rattle.tree_file.specs.Format.{link, link-count, node-count}
 use Rattle.tree_file.specs.WellFormed.{WellFormed}
-use Rattle.tree_file.specs.NodeTable.{fault-tree, kind-as, rank, read-node}
+use Rattle.tree_file.specs.NodeTable.{fault-tree, rank, read-node}
 use Rattle.tree_file.specs.declared.node.Gate.{Gate as GateNode}
 use Rattle.tree_file.specs.declared.node.GateKind.the-variants.{All, Any}
 use Rattle.tree_file.specs.declared.node.Node.{Node}

@@ -1,6 +1,6 @@
 -- Writing a node's sets place by place.
 use Prim.Native.Nat.{ℕ, _+_, _≤_, _<_}
-use mathlib.Core.Path.{_≡_, refl, ap, _∙_}
+use mathlib.Core.Path.{_≡_, refl, _∙_}
 use mathlib.Core.List.{List}
 use native.Mathlib.Decide.{ℕ-discrete}
 use native.Mathlib.Omega.{arith}
@@ -51,7 +51,8 @@ module _ {tree : List ℕ} {i count : ℕ} {counts before : List ℕ} (asked : W
       same-length = rw length-set (s .same-length);
     }
       where
-        go : (q : ℕ) → q < r + 1 → Dec (q ≡ r) → Same-set (members (getD (set sets r own) q 0)) (node-sets tree i .set q)
+        go : (q : ℕ) → q < r + 1 → Dec (q ≡ r)
+            → Same-set (members (getD (set sets r own) q 0)) (node-sets tree i .set q)
         go q m (yes e) = rw (e, getD-set-same sets r own 0 set-placed) h
         go q m (no d) = rw (getD-set-other sets r q own 0 d) (s .each q (omega arith))
 

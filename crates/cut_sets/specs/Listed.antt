@@ -1,5 +1,5 @@
--- What listing leaves in the lent slice: every minimal cut set once and no other set, in whatever order, and the rest as it
--- was.
+-- What listing leaves in the lent slice: every minimal cut set once and no other set, in whatever order, and the rest
+-- as it was.
 use Prim.Native.Nat.{ℕ, _≤_}
 use mathlib.Core.Path.{_≡_}
 use mathlib.Core.List.{List}

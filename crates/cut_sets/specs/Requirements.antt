@@ -1,5 +1,5 @@
--- What the functions inside this crate ask of each other and answer: the counts of nodes at their places, and the sets that
--- they number.
+-- What the functions inside this crate ask of each other and answer: the counts of nodes at their places, and the sets
+-- that they number.
 use Prim.Native.Nat.{ℕ, zero, suc, _+_, _-_, _*_, _≤_, _<_}
 use mathlib.Core.Path.{_≡_}
 use mathlib.Core.List.{List, [], _∷_}

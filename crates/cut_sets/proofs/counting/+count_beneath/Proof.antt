@@ -1,5 +1,5 @@
--- `cut_sets::counting::count_beneath` meets its contract. It calls itself at the nodes that its links name, whose rank is
--- lower: the measure is the rank. The invariant is what is counted after the links before j.
+-- `cut_sets::counting::count_beneath` meets its contract. It calls itself at the nodes that its links name, whose rank
+-- is lower: the measure is the rank. The invariant is what is counted after the links before j.
 use Prim.Native.Nat.{ℕ, _-_, _<_}
 use native.Mathlib.Omega.{arith}
 use lib.ListN.{length-set}
@@ -22,10 +22,12 @@ use Rattle.cut_sets.proofs.counting.+count_beneath.Tie.{close}
 abbrev μ : Measures 2 count-beneath-kinds.ps ℕ
 μ κs a = rank (a .0 .now) (a .1 .0)
 
+-- what it is given at the rank t
 abbrev given : ℕ → In 2 count-beneath-kinds.ps
 given t =
     and 2 count-beneath-kinds.ps (is 2 count-beneath-kinds.ps μ t) count-beneath.Pre
 
+-- what a call of it asks below the rank t
 abbrev asked : ℕ → In 2 count-beneath-kinds.ps
 asked t =
     and
@@ -34,9 +36,20 @@ asked t =
     (falls 2 count-beneath-kinds.ps _<_ μ t)
     count-beneath.Pre
 
--- what its callees ask and answer
+-- what its callees ask and answer; itself at a lower rank
 abbrev callees : ℕ → lts.Claims
-callees t = (node-at-reads.Asked, node-at-reads.Learnt, neutral-reads.Asked, neutral-reads.Learnt, input-at-reads.Asked, input-at-reads.Learnt, asked t, count-beneath.Post, joined-reads.Asked, joined-reads.Learnt)
+callees t = (
+  node-at-reads.Asked,
+  node-at-reads.Learnt,
+  neutral-reads.Asked,
+  neutral-reads.Learnt,
+  input-at-reads.Asked,
+  input-at-reads.Learnt,
+  asked t,
+  count-beneath.Post,
+  joined-reads.Asked,
+  joined-reads.Learnt,
+)
 
 abbrev Inv-loop : lts.InvT-loop
 Inv-loop tree i counts₀ kind end total₀ j₀ counts total j =
@@ -97,10 +110,12 @@ input-at-requires t c κs =
     let read = node .before .before in
     let start = read .before .before .before in (
       start .pre .1 .small .well-formed,
-      link-inside (start .pre .1) (read .node-at .ensures) (node .node .given .1) (loop .loop .inv) (c .loop-test .taken),
+      link-inside (start .pre .1) (read .node-at .ensures) (node .node .given .1) (loop .loop .inv)
+          (c .loop-test .taken),
     )
 
-count-beneath-requires : (t : ℕ) → lts.Need-count-beneath-requires (callees t) (given t) count-beneath.Post Inv-loop μ-loop
+count-beneath-requires : (t : ℕ)
+    → lts.Need-count-beneath-requires (callees t) (given t) count-beneath.Post Inv-loop μ-loop
 count-beneath-requires t c κs =
     let input = c .before in
     let turn = input .before in

@@ -1,5 +1,4 @@
 -- `cut_sets::inputs::input_at` meets its contract.
-use mathlib.Core.Path.{_≡_}
 use borrow.Author.Needs.{needs}
 use Rattle.cut_sets.proofs.Links.{link-inside, link-named}
 use Rattle.cut_sets.proofs.inputs.input_at.Statement.{statement}

@@ -1,5 +1,4 @@
 -- `cut_sets::inputs::joined` meets its contract: AND multiplies the counts, OR adds them.
-use mathlib.Core.Path.{_≡_, sym}
 use borrow.Author.Needs.{needs}
 use Rattle.cut_sets.proofs.inputs.joined.Statement.{statement}
 use Rattle.cut_sets.proofs.inputs.joined.Tie as tie

@@ -1,8 +1,8 @@
 -- `cut_sets::list::write_sets` meets its contract: the invariant is that the sets below number r are written.
 use Prim.Native.Nat.{_-_}
-use native.Mathlib.Omega.{arith}
 use borrow.Author.Needs.{needs}
-use Rattle.cut_sets.proofs.WriteTurn.{Writing, set-listable, set-placed, writing-end, writing-next, writing-start}
+use Rattle.cut_sets.proofs.WriteTurn.{Writing, set-listable, set-placed, writing-end, writing-next}
+use Rattle.cut_sets.proofs.WriteTurn.{writing-start}
 use Rattle.cut_sets.proofs.list.write_sets.Statement.{statement}
 use Rattle.cut_sets.proofs.list.write_sets.Tie as tie
 

@@ -22,15 +22,28 @@ use Rattle.cut_sets.proofs.sets.+set_at.Tie.{close}
 abbrev μ : Measures 2 set-at-kinds.ps ℕ
 μ κs a = rank (a .0 .now) (a .1 .0)
 
+-- what it is given at the rank t
 abbrev given : ℕ → In 2 set-at-kinds.ps
 given t = and 2 set-at-kinds.ps (is 2 set-at-kinds.ps μ t) set-at.Pre
 
+-- what a call of it asks below the rank t
 abbrev asked : ℕ → In 2 set-at-kinds.ps
 asked t = and 2 set-at-kinds.ps (falls 2 set-at-kinds.ps _<_ μ t) set-at.Pre
 
--- what its callees ask and answer
+-- what its callees ask and answer; itself at a lower rank
 abbrev callees : ℕ → lts.Claims
-callees t = (node-at-reads.Asked, node-at-reads.Learnt, event-alone-reads.Asked, event-alone-reads.Learnt, choose-reads.Asked, choose-reads.Learnt, asked t, set-at.Post, input-at-reads.Asked, input-at-reads.Learnt)
+callees t = (
+  node-at-reads.Asked,
+  node-at-reads.Learnt,
+  event-alone-reads.Asked,
+  event-alone-reads.Learnt,
+  choose-reads.Asked,
+  choose-reads.Learnt,
+  asked t,
+  set-at.Post,
+  input-at-reads.Asked,
+  input-at-reads.Learnt,
+)
 
 abbrev Inv-loop : lts.InvT-loop
 Inv-loop tree i r counts set₀ rest₀ end j₀ set rest j = Joining tree j₀ end r set rest j
@@ -72,9 +85,12 @@ set-at-requires t c κs =
     let node = told .before .before .before in
     let read = node .before .before in
     let start = read .before .before .before in
-    let lower = chosen-falls (start .pre .1) (read .node-at .ensures) (node .node2 .given .1) (told .enum-told .given .1) (c .choose .ensures) in (
+    let lower =
+    chosen-falls (start .pre .1) (read .node-at .ensures) (node .node2 .given .1) (told .enum-told .given .1)
+    (c .choose .ensures) in (
       omega (arith, lower, start .pre .0),
-      chosen-listable (start .pre .1) (read .node-at .ensures) (node .node2 .given .1) (told .enum-told .given .1) (c .choose .ensures),
+      chosen-listable (start .pre .1) (read .node-at .ensures) (node .node2 .given .1) (told .enum-told .given .1)
+          (c .choose .ensures),
     )
 
 enum-told-2 : (t : ℕ) → lts.Need-enum-told-2 (callees t) (given t) set-at.Post Inv-loop μ-loop
@@ -204,7 +220,8 @@ returns-2 t c =
     let node = told .before .before .before in
     let read = node .before .before in
     let start = read .before .before .before in
-    any-set (start .pre .1) (read .node-at .ensures) (node .node2 .given .1) (told .enum-told .given .1) (chosen .choose .ensures) _ (c .set-at .ensures)
+    any-set (start .pre .1) (read .node-at .ensures) (node .node2 .given .1) (told .enum-told .given .1)
+    (chosen .choose .ensures) _ (c .set-at .ensures)
 
 returns-3 : (t : ℕ) → lts.Need-returns-3 (callees t) (given t) set-at.Post Inv-loop μ-loop
 returns-3 t c =
