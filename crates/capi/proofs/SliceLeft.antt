@@ -12,7 +12,6 @@ use Rattle.capi.specs.CutSets.{listing-by, Slice-left}
 -- An answer with number 0 is that of a listing that was made, any other that of a refused one.
 pub left-by : (held : Held) (outcome : Outcome) (tree before after : List ℕ)
     → Sets-left outcome tree before after → Slice-left (listing-by held outcome) tree before after
-unfolding Sets-left
 left-by held (Counted n) tree before after left =
     record { listed = λ z. left; unchanged = λ refused. absurd (refused refl) }
 left-by held (Refused reason) tree before after left =
