@@ -1,5 +1,5 @@
-# The command at the root: every shipped example, levels to the byte and cut sets by brute force, its refusals in words, bad
-# arguments, building, signals.
+# The command at the root: every shipped example, levels to the byte and cut sets by brute force, its refusals in words,
+# bad arguments, building, signals.
 # All but the shipped examples run in a copy, where a stand-in for rt is on the path.
 import itertools
 import os
@@ -302,7 +302,8 @@ def calls(work, copy):
 
 def file_names(work, copy):
     names = os.path.join(work, "names")
-    for name in ("the tree", "-n", "--help", "--version", "levels", "cut-sets", "%s\\n\\1", "$HOME *", "it's", '"', "\udcff\u00e9"):
+    for name in ("the tree", "-n", "--help", "--version", "levels", "cut-sets", "%s\\n\\1", "$HOME *", "it's", '"',
+                 "\udcff\u00e9"):
         write(os.path.join(names, name), read(ROAD[0]))
         write(os.path.join(names, name + ".fts"), read(ROAD[1]))
         printed(f"the file name {name!r}", copy.run(name, name + ".fts", "2", cwd=names), ROAD_LEVELS)
