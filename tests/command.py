@@ -707,7 +707,9 @@ def sets_unwritten(copy, ask):
 
 
 def building(copy):
-    stopped("nothing built and no rt", copy.run(*ROAD, "2"), 3, "not built.*rt is not on the path")
+    stopped("nothing built and no rt", copy.run(*ROAD, "2"), 3, "the level printer is not built.*rt is not on the path")
+    stopped("cut-sets, nothing built and no rt", copy.run("cut-sets", ROAD[0]), 3,
+            "the cut set printer is not built.*rt is not on the path")
     copy.stand_in()
     ran = copy.run()
     printed("a first run", ran, FUEL_LEVELS)
@@ -737,7 +739,26 @@ def building(copy):
     copy.stand_in(begin="sleep 2")
     ran = copy.run(*ROAD, "2")
     hold("a slow rt where nothing changed: nothing said", ran.errors == "" and ran.status == 0, ran)
+    building_sets(copy)
     without_rt(copy)
+
+
+def building_sets(copy):
+    """Each program is built when it is first asked for."""
+    copy.stand_in()
+    ran = copy.run("cut-sets", ROAD[0])
+    hold("a first run of cut-sets: its text", ran.status == 0 and ran.out.startswith(b"tree 1 events 3 cut sets "), ran)
+    hold("a first run of cut-sets: what it does", "proving and building the cut set printer" in ran.errors, ran)
+    hold("a first run of cut-sets: the call", copy.calls() == ["check cut_set_lines"], ran)
+    sets_printed("a second run of cut-sets", copy.run("cut-sets", ROAD[0]), read(ROAD[0]))
+    os.remove(os.path.join(copy.target, "stamp/cut_set_lines"))
+    copy.stand_in(status=1)
+    ran = copy.run("cut-sets", ROAD[0])
+    hold("cut-sets, a build that fails: status", ran.status == 3 and ran.out == b"", ran)
+    hold("cut-sets, a build that fails: said", "'rt check cut_set_lines' failed: it ended with status 1" in ran.errors
+         and "no cut set is printed; " in ran.lines[-1], ran)
+    copy.stand_in()
+    printed("the levels after it", copy.run(*ROAD, "2"), b"tree of another source\n")
 
 
 def without_rt(copy):
