@@ -1,4 +1,4 @@
-# The level printer, proved and built where its sources changed. What has changed is rt's to say: it goes by content.
+# A program, proved and built where its sources changed. What has changed is rt's to say: it goes by content.
 import collections
 import contextlib
 import fcntl
@@ -18,16 +18,23 @@ LAST_LINES = 12
 
 UNCHANGED = "(unchanged since it was last proved)"
 
+# A program: its crate, its name in a sentence, and what it prints one of.
+Program = collections.namedtuple("Program", "crate title prints")
+LEVELS = Program("levels", "the level printer", "level")
+CUT_SETS = Program("cut_set_lines", "the cut set printer", "cut set")
+
 
 class Desk:
-    """The places that building needs."""
+    """The places that building a program needs."""
 
-    def __init__(self, home):
+    def __init__(self, home, program):
         self.home = home
+        self.crate, self.title, self.prints = program
+        self.check = f"rt check {self.crate}"
         self.target = os.path.join(home, "target")
-        self.program = os.path.join(self.target, "bin", "levels")
+        self.program = os.path.join(self.target, "bin", self.crate)
         # rt leaves it once the program is proved, built, and right on its stored case.
-        self.stamp = os.path.join(self.target, "stamp", "levels")
+        self.stamp = os.path.join(self.target, "stamp", self.crate)
         self.lock = os.path.join(self.target, "nekbrod.lock")
         self.log = os.path.join(self.target, "nekbrod.log")
 
@@ -36,9 +43,9 @@ class Desk:
 
 
 @contextlib.contextmanager
-def level_printer(home, signals):
-    """The path of a level printer that is up to date, for the length of a `with`: nobody builds meanwhile."""
-    desk = Desk(home)
+def up_to_date(program, home, signals):
+    """The path of a program that is up to date, for the length of a `with`: nobody builds meanwhile."""
+    desk = Desk(home, program)
     rt = shutil.which("rt")
     if rt is None:
         yield as_it_is(desk, "rt is not on the path")
@@ -59,10 +66,10 @@ def level_printer(home, signals):
 def as_it_is(desk, reason):
     """The program that is there, with a line that nobody asked whether it is still that of its sources."""
     if not desk.is_built():
-        raise Stop(3, f"the level printer is not built, and {reason}")
+        raise Stop(3, f"{desk.title} is not built, and {reason}")
     if not os.path.exists(desk.stamp):
-        raise Stop(3, f"the level printer was not seen to be right when it was built, and {reason}")
-    say(f"{reason}; the level printer is run as it is, and may be older than its sources")
+        raise Stop(3, f"{desk.title} was not seen to be right when it was built, and {reason}")
+    say(f"{reason}; {desk.title} is run as it is, and may be older than its sources")
     return desk.program
 
 
@@ -83,7 +90,7 @@ def take_lock(name, signals):
         try:
             while not is_taken(lock):
                 if not told and time.monotonic() - began > TOLD_AFTER:
-                    say("another run is building or checking the level printer; waiting for it")
+                    say("another run is building or checking a program; waiting for it")
                     told = True
                 signals.wait([], 0.1)
             # The folder may have been removed meanwhile, and the file with it.
@@ -113,7 +120,7 @@ def prove(desk, rt, signals, lock):
     report = Report(desk, first)
     try:
         with open(desk.log, "wb") as log, Child(
-                signals, [rt, "check", "levels"], kept=(lock,), cwd=desk.home,
+                signals, [rt, "check", desk.crate], kept=(lock,), cwd=desk.home,
                 stdin=subprocess.DEVNULL, stderr=subprocess.STDOUT) as child:
             piece = None
             while piece != b"":
@@ -122,16 +129,16 @@ def prove(desk, rt, signals, lock):
                 report.take(piece or b"")
             status = child.status()
     except OSError as error:
-        raise Stop(3, f"'rt check levels' could not be run: {error}") from None
+        raise Stop(3, f"'{desk.check}' could not be run: {error}") from None
     finally:
         clear()
     if status != 0:
-        say(f"'rt check levels' failed: it {status_in_words(status)}. Its last lines:")
+        say(f"'{desk.check}' failed: it {status_in_words(status)}. Its last lines:")
         for line in report.last:
             say(f"  {line}")
-        raise Stop(3, f"no level is printed; {desk.log} has all that rt said")
+        raise Stop(3, f"no {desk.prints} is printed; {desk.log} has all that rt said")
     if not desk.is_built():
-        raise Stop(3, f"'rt check levels' left no program at {desk.program}; {desk.log} has all that rt said")
+        raise Stop(3, f"'{desk.check}' left no program at {desk.program}; {desk.log} has all that rt said")
 
 
 class Report:
@@ -139,14 +146,15 @@ class Report:
 
     def __init__(self, desk, first):
         self.began = time.monotonic()
-        self.crates = crates_of(os.path.join(desk.home, "crates.txt"), "levels")
+        self.crate, self.title = desk.crate, desk.title
+        self.crates = crates_of(os.path.join(desk.home, "crates.txt"), desk.crate)
         self.stamps = os.path.dirname(desk.stamp)
         self.proved = set()
         self.rest = b""
         self.last = collections.deque(maxlen=LAST_LINES)
         self.told = False
         if first:
-            self.tell("proving and building the level printer; the first time this takes minutes")
+            self.tell(f"proving and building {desk.title}; the first time this takes minutes")
 
     def tell(self, text):
         self.told = True
@@ -160,13 +168,13 @@ class Report:
         if not all(os.path.exists(os.path.join(self.stamps, name)) for name in self.crates):
             self.tell_change()
         if self.told:
-            waiting = [name for name in self.crates if name not in self.proved] or ["levels"]
+            waiting = [name for name in self.crates if name not in self.proved] or [self.crate]
             seconds = time.monotonic() - self.began
             show_passing(f"{waiting[0]}, {len(self.proved)} of {len(self.crates)} crates proved, {seconds:.0f} s")
 
     def tell_change(self):
         if not self.told:
-            self.tell("proving what has changed since the level printer was built")
+            self.tell(f"proving what has changed since {self.title} was built")
 
     def take_line(self, line):
         words = line.split()

@@ -3,35 +3,42 @@ import os
 import signal
 import sys
 
-from desk.build import level_printer
+from desk.asked import MOST_SETS, Pair, TreeFile, levels_text, sets_text
+from desk.build import CUT_SETS, LEVELS, up_to_date
 from desk.child import Signals
-from desk.pair import Pair, printed
 from desk.refusal import explain
 from desk.screen import Stop, is_terminal, print_text, say
 
 HELP = """\
-nekbrod: all levels of a fault tree, proved
+nekbrod: all levels of a fault tree, and its minimal cut sets, proved
 
   ./nekbrod                             the shipped example examples/fuel_supply, 10 levels
   ./nekbrod levels TREE SHEET LEVELS    a tree file, an opinion sheet, and a number of levels from 1 to 1000
   ./nekbrod TREE SHEET LEVELS           the same
+  ./nekbrod cut-sets TREE               the minimal cut sets of a tree file
   ./nekbrod --help                      this text
   ./nekbrod --version                   the version
 
-The first run proves and builds the level printer with the toolchain's command rt; that takes minutes, and
-tells its progress on standard error. Later runs ask rt what has changed, and start at once where nothing has.
+The first run of each kind proves and builds its program with the toolchain's command rt; that takes minutes,
+and tells its progress on standard error. Later runs ask rt what has changed, and start at once where nothing has.
 Where rt is not on the path, or the folder target/ cannot be written, what is built is run, and a line says so.
 
 Standard output has a header, and then a line for each level k from LEVELS down to 0:
   k, lower end, its mark, upper end, its mark
 The ends enclose the probability of the top event, in billionths. An end marked = is exact; one marked ~ is
-rounded outward. Or it has one line, 'refused R at P' or 'input': standard error then says which rule is broken,
-in which file and where, and what stands there. Records, links, entries and experts are counted from 0.
+rounded outward.
+
+For cut-sets the header has the number of minimal cut sets, and each line after it is one: the numbers of its basic
+events, rising. If all of these fail, the top event fails; fewer of them do not suffice. The tree may have up to 64
+basic events. More than 100000 sets are counted, and not listed. The order of the lines is left free.
+
+Or standard output has one line, 'refused R at P' or 'input': standard error then says which rule is broken, in
+which file and where, and what stands there. Records, links, entries and experts are counted from 0.
 docs/REFUSALS.md has the rules.
 
-Exit status: 0 levels were printed; 1 the files or the number of levels were refused; 2 bad arguments;
-3 the level printer could not be built or run, or its text not be written; 128 + n ended by the signal n
-(INT, TERM, HUP or QUIT), with all that it had started.
+Exit status: 0 levels or cut sets were printed; 1 a file or the number of levels was refused; 2 bad arguments;
+3 a program could not be built or run, or its text not be written; 4 the cut sets were counted, and are too many to
+be listed; 128 + n ended by the signal n (INT, TERM, HUP or QUIT), with all that it had started.
 """
 
 EXAMPLE = ("examples/fuel_supply/tree.ftf", "examples/fuel_supply/sheet.fts", "10")
@@ -51,7 +58,7 @@ def main(home, words):
 
 
 def run(home, words):
-    if words in (["--help"], ["-h"], ["levels", "--help"], ["levels", "-h"]):
+    if words[-1:] in (["--help"], ["-h"]) and words[:-1] in ([], ["levels"], ["cut-sets"]):
         print_text(HELP.encode())
         return 0
     if words == ["--version"]:
@@ -63,8 +70,12 @@ def run(home, words):
         return levels_of(home, os.path.join(home, tree), os.path.join(home, sheet), levels)
     if len(words) == 4 and words[0] == "levels":
         return levels_of(home, *words[1:])
-    if len(words) == 3:
+    if len(words) == 2 and words[0] == "cut-sets":
+        return sets_of(home, words[1])
+    if len(words) == 3 and (words[0] != "cut-sets" or os.path.exists(words[0])):
         return levels_of(home, *words)
+    if words[0] == "cut-sets":
+        raise Stop(2, "nekbrod cut-sets takes a tree file alone; see nekbrod --help")
     raise Stop(2, "nekbrod takes a tree file, an opinion sheet and a number of levels, or nothing; see nekbrod --help")
 
 
@@ -79,14 +90,35 @@ def version(home):
 def levels_of(home, tree, sheet, levels):
     pair = Pair(tree, sheet, levels)
     with Signals() as signals:
-        with level_printer(home, signals) as program:
-            text = printed(program, pair, signals)
+        with up_to_date(LEVELS, home, signals) as program:
+            text = levels_text(program, pair, signals)
         signals.check()
     print_text(text)
     if not text.startswith(b"tree "):
-        for line in explain(home, pair, text):
-            say(line)
-        return 1
+        return refused(home, pair, text)
     if is_terminal(sys.stdout) and is_terminal(sys.stderr):
         say("level, lower end, upper end of the top event's probability, in billionths; = exact, ~ rounded outward")
     return 0
+
+
+def sets_of(home, tree):
+    tree_file = TreeFile(tree)
+    with Signals() as signals:
+        with up_to_date(CUT_SETS, home, signals) as program:
+            text, unlisted = sets_text(program, tree_file, signals)
+        signals.check()
+    print_text(text)
+    if not text.startswith(b"tree "):
+        return refused(home, tree_file, text)
+    if unlisted is not None:
+        say(f"no set is listed: the tree has {unlisted} minimal cut sets, and at most {MOST_SETS} are listed")
+        return 4
+    if is_terminal(sys.stdout) and is_terminal(sys.stderr):
+        say("each line is a minimal cut set: the numbers of the basic events that fail the top event together")
+    return 0
+
+
+def refused(home, asked, text):
+    for line in explain(home, asked, text):
+        say(line)
+    return 1

@@ -7,23 +7,23 @@ import re
 LONGEST_TREE, LONGEST_SHEET = 7175, 17434
 TREE_HEADER, SHEET_HEADER = 9, 26
 RECORD, ENTRY, EXPERTS = 5, 17, 16
-MOST_NODES, UNIT = 1024, 1000000000
+MOST_NODES, MOST_EVENTS, UNIT = 1024, 64, 1000000000
 GATES = {1: "AND", 2: "OR"}
 
 Row = collections.namedtuple("Row", "rule place aboard")
 
 
-def explain(home, pair, text):
+def explain(home, asked, text):
     """The lines that go with a refusal's own line."""
     page = os.path.join(home, "docs", "REFUSALS.md")
     read_on = f"{page} says what this means and what to do"
     if text.startswith(b"input"):
-        return [f"{too_long(pair)}.", f"see that each file is the right one; {read_on}"]
+        return [f"{too_long(asked)}.", f"see that each file is the right one; {read_on}"]
     matched = re.fullmatch(rb"refused ([0-9]+) at ([0-9]+)\n", text)
     if not matched:
         return [read_on]
     number, place = int(matched.group(1)), int(matched.group(2))
-    where, found, part = what_stands(pair, number, place)
+    where, found, part = what_stands(asked, number, place)
     row = row_of(read_rows(page), number, part)
     rule = f": {row.rule}" if row else ""
     aboard = f"aboard: {row.aboard}; " if row else ""
@@ -50,24 +50,27 @@ def row_of(rows, number, part):
     return fitting[0] if fitting else None
 
 
-def too_long(pair):
+def too_long(asked):
     """What the level printer does not let in at all."""
     faults = []
-    for what, name, data, most in (("tree file", pair.tree_name, pair.tree, LONGEST_TREE),
-                                   ("opinion sheet", pair.sheet_name, pair.sheet, LONGEST_SHEET)):
+    for (what, name, data), most in zip(asked.files(), (LONGEST_TREE, LONGEST_SHEET)):
         if len(data) > most:
             faults.append(f"the {what} {name} has {len(data)} bytes; allowed: at most {most}")
     return "; ".join(faults) or "the level printer did not take its input"
 
 
-def what_stands(pair, number, place):
+def what_stands(asked, number, place):
     """Where the refusal is, what is found there, and the words for its part of the file."""
-    if number == 13:
-        return "The number of levels", f" is {pair.levels}; allowed: 1 to 1000", ""
-    if number == 24:
-        return "The two files", f" do not belong together: {two_files(Tree(pair.tree), Sheet(pair.sheet))}", ""
-    tree, sheet = Tree(pair.tree), Sheet(pair.sheet)
-    for file, what, name in (tree, "tree file", pair.tree_name), (sheet, "opinion sheet", pair.sheet_name):
+    files = [(what, name, READERS[what](data)) for what, name, data in asked.files()]
+    readers = [file for _, _, file in files]
+    if number == 13 and asked.levels is not None:
+        return "The number of levels", f" is {asked.levels}; allowed: 1 to 1000", ""
+    if number == 24 and len(readers) == 2:
+        return "The two files", f" do not belong together: {two_files(*readers)}", ""
+    if number == 26:
+        found = f" has {readers[0].events()} basic events; allowed: at most {MOST_EVENTS}"
+        return f"The tree file {files[0][1]}", found, ""
+    for what, name, file in files:
         found, part = file.fault(number, place)
         if found:
             return f"The {what} {name}, byte {place}: ", found, part
@@ -75,8 +78,7 @@ def what_stands(pair, number, place):
 
 
 def two_files(tree, sheet):
-    events = sum(tree.kind(i) == 0 for i in range(tree.count()))
-    return (f"the tree file has the tree number {tree.two(5)} and E = {events}, the opinion sheet "
+    return (f"the tree file has the tree number {tree.two(5)} and E = {tree.events()}, the opinion sheet "
             f"{sheet.two(5)} and E = {sheet.count()}; allowed: the same in both")
 
 
@@ -122,6 +124,9 @@ class Tree(Bytes):
 
     def b(self, i):
         return self.two(TREE_HEADER + RECORD * i + 3)
+
+    def events(self):
+        return sum(self.kind(i) == 0 for i in range(self.count()))
 
     def first_link(self):
         return TREE_HEADER + RECORD * self.count()
@@ -232,3 +237,6 @@ class Sheet(Bytes):
         experts = self.experts()
         allowed = range_of_listed if i < experts else f"0 after the last expert (experts: {experts})"
         return f"expert {i}'s {what} is {value}; allowed: {allowed}"
+
+
+READERS = {"tree file": Tree, "opinion sheet": Sheet}

@@ -1,5 +1,7 @@
-# The command at the root: every shipped example to the byte, its refusals in words, bad arguments, building, signals.
+# The command at the root: every shipped example, levels to the byte and cut sets by brute force, its refusals in words,
+# bad arguments, building, signals.
 # All but the shipped examples run in a copy, where a stand-in for rt is on the path.
+import itertools
 import os
 import pty
 import re
@@ -12,6 +14,8 @@ import time
 
 ROOT = os.path.dirname(os.path.dirname(os.path.realpath(__file__)))
 LEVELS = os.path.join(ROOT, "target/bin/levels")
+CUT_SETS = os.path.join(ROOT, "target/bin/cut_set_lines")
+PROGRAMS = {"levels": LEVELS, "cut_set_lines": CUT_SETS}
 ROAD = [os.path.join(ROOT, "examples/road_trip", name) for name in ("tree.ftf", "sheet.fts")]
 FUEL = [os.path.join(ROOT, "examples/fuel_supply", name) for name in ("tree.ftf", "sheet.fts")]
 NOBODY = 65534
@@ -137,12 +141,13 @@ CRATES = """# crates
 theory:
 levels: printer io
 printer: theory bytes
+cut_set_lines: printer io
 other: theory
 """
 
 
 class Copy:
-    """A copy of the command, with the level printer where it is built, and a path that has only some tools."""
+    """A copy of the command, with its programs where they are built, and a path that has only some tools."""
 
     def __init__(self, work, name, built=True):
         self.home = os.path.join(work, name)
@@ -151,7 +156,6 @@ class Copy:
         self.command = os.path.join(self.home, "nekbrod")
         self.target = os.path.join(self.home, "target")
         self.program = os.path.join(self.target, "bin/levels")
-        self.source = os.path.join(self.home, "crates/levels/src/main.rt")
         for part in ("desk", "examples/fuel_supply"):
             shutil.copytree(os.path.join(ROOT, part), os.path.join(self.home, part),
                             ignore=shutil.ignore_patterns("__pycache__"))
@@ -159,8 +163,9 @@ class Copy:
             os.makedirs(os.path.dirname(os.path.join(self.home, part)), exist_ok=True)
             shutil.copy(os.path.join(ROOT, part), os.path.join(self.home, part))
         write(os.path.join(self.home, "crates.txt"), CRATES)
-        write(self.source, read(LEVELS))
-        os.chmod(self.source, 0o755)
+        for crate, program in PROGRAMS.items():
+            write(self.source(crate), read(program))
+            os.chmod(self.source(crate), 0o755)
         os.makedirs(self.tools)
         os.makedirs(self.notes)
         os.symlink(PYTHON, os.path.join(self.tools, "python3"))
@@ -168,21 +173,26 @@ class Copy:
             os.symlink(shutil.which(tool), os.path.join(self.tools, tool))
         if built:
             self.stand_in()
-            for name in ("theory", "printer", "levels"):
-                write(os.path.join(self.target, "stamp", name), read(self.source))
-            write(self.program, read(self.source))
-            os.chmod(self.program, 0o755)
+            for name in ("theory", "printer"):
+                write(os.path.join(self.target, "stamp", name), "")
+            for crate, program in PROGRAMS.items():
+                write(os.path.join(self.target, "stamp", crate), read(program))
+                os.chmod(write(os.path.join(self.target, "bin", crate), read(program)), 0o755)
 
-    def stand_in(self, begin="", before="", after="", status=0, leaves="cp \"$source\" target/stamp/levels"):
+    def source(self, crate="levels"):
+        return os.path.join(self.home, "crates", crate, "src/main.rt")
+
+    def stand_in(self, begin="", before="", after="", status=0, leaves="cp \"$source\" target/stamp/$crate"):
         """A stand-in for rt: it notes its call, and goes by content as rt does; its program is its source."""
         write(os.path.join(self.tools, "rt"), f"""#!/bin/sh
 echo "$*" >>'{self.notes}/calls'
 mkdir '{self.notes}/busy' || echo two at once >>'{self.notes}/overlap'
-source=crates/levels/src/main.rt
+crate=$2
+source=crates/$crate/src/main.rt
 {begin}
 echo "rt: theory proved (unchanged since it was last proved)"
-if cmp -s "$source" target/stamp/levels; then
-    echo "rt: levels proved (unchanged since it was last proved)"
+if cmp -s "$source" target/stamp/$crate; then
+    echo "rt: $crate proved (unchanged since it was last proved)"
     echo "rt: ok, 3 crates proved"
     rmdir '{self.notes}/busy'
     exit 0
@@ -190,13 +200,13 @@ fi
 mkdir -p target/bin target/stamp
 echo >target/stamp/theory
 echo >target/stamp/printer
-rm -f target/stamp/levels
+rm -f target/stamp/$crate
 {before}
 echo "fn some::function: proved"
 echo "rt: printer proved (1 s)"
-if [ {status} -eq 0 ]; then cp "$source" target/bin/levels; {leaves}; fi
+if [ {status} -eq 0 ]; then cp "$source" target/bin/$crate; {leaves}; fi
 {after}
-echo "rt: levels proved (2 s)"
+echo "rt: $crate proved (2 s)"
 rmdir '{self.notes}/busy'
 exit {status}
 """)
@@ -219,11 +229,11 @@ exit {status}
     def calls(self):
         return self.note("calls").splitlines()
 
-    def change(self, text):
-        """Other bytes in the source, with an old date."""
-        write(self.source, text)
-        os.chmod(self.source, 0o755)
-        os.utime(self.source, (946684800, 946684800))
+    def change(self, text, crate="levels"):
+        """Other bytes in a program's source, with an old date."""
+        source = write(self.source(crate), text)
+        os.chmod(source, 0o755)
+        os.utime(source, (946684800, 946684800))
 
     def start(self, *words, **more):
         return start([self.command, *words], env={"PATH": self.tools, "LC_ALL": "C"}, **more)
@@ -244,6 +254,9 @@ def shipped_examples():
                 ran = run([os.path.join(ROOT, "nekbrod"), folder + "/tree.ftf", folder + "/sheet.fts", n])
                 printed(f"{name}, {n} levels", ran, read(os.path.join(folder, expected)))
                 hold(f"{name}: no errors", ran.errors == "", ran)
+        if os.path.exists(folder + "/tree.ftf"):
+            ran = run([os.path.join(ROOT, "nekbrod"), "cut-sets", folder + "/tree.ftf"])
+            sets_printed(name, ran, read(folder + "/tree.ftf"))
 
 
 def calls(work, copy):
@@ -267,12 +280,12 @@ def calls(work, copy):
     printed("the word levels", ran, ROAD_LEVELS)
     hold("the word levels: no errors", ran.errors == "", ran)
     hold("nothing written beside the modules", sorted(os.listdir(copy.home + "/desk")) == [
-        "__init__.py", "build.py", "child.py", "main.py", "pair.py", "refusal.py", "screen.py"])
-    for words in (["--help"], ["-h"], ["levels", "--help"]):
+        "__init__.py", "asked.py", "build.py", "child.py", "main.py", "refusal.py", "screen.py"])
+    for words in (["--help"], ["-h"], ["levels", "--help"], ["cut-sets", "--help"], ["cut-sets", "-h"]):
         ran = copy.run(*words)
         hold(f"{words}: status", ran.status == 0, ran)
-        for text in (b"nekbrod TREE SHEET LEVELS", b"nekbrod levels TREE SHEET LEVELS", b"--version", b"Exit status",
-                     b"128 + n"):
+        for text in (b"nekbrod TREE SHEET LEVELS", b"nekbrod levels TREE SHEET LEVELS", b"nekbrod cut-sets TREE",
+                     b"--version", b"Exit status", b"128 + n"):
             hold(f"{words}: {text}", text in ran.out, ran)
         hold(f"{words}: no errors", ran.errors == "", ran)
     ran = copy.run("--version")
@@ -289,7 +302,8 @@ def calls(work, copy):
 
 def file_names(work, copy):
     names = os.path.join(work, "names")
-    for name in ("the tree", "-n", "--help", "--version", "levels", "%s\\n\\1", "$HOME *", "it's", '"', "\udcff\u00e9"):
+    for name in ("the tree", "-n", "--help", "--version", "levels", "cut-sets", "%s\\n\\1", "$HOME *", "it's", '"',
+                 "\udcff\u00e9"):
         write(os.path.join(names, name), read(ROAD[0]))
         write(os.path.join(names, name + ".fts"), read(ROAD[1]))
         printed(f"the file name {name!r}", copy.run(name, name + ".fts", "2", cwd=names), ROAD_LEVELS)
@@ -489,7 +503,10 @@ def bad_arguments(work, copy):
                         ("an empty argument", [""]), ("levels alone", ["levels"]),
                         ("levels and one file", ["levels", ROAD[0]]),
                         ("levels and four", ["levels", *ROAD, "2", "2"]), ("an unknown word", ["--wat"]),
-                        ("version and more", ["--version", "2"])):
+                        ("version and more", ["--version", "2"]), ("cut-sets alone", ["cut-sets"]),
+                        ("cut-sets and two files", ["cut-sets", *ROAD]),
+                        ("cut-sets and three", ["cut-sets", *ROAD, "2"]),
+                        ("help after a file", ["cut-sets", ROAD[0], "--help"])):
         stopped(name, copy.run(*words), 2, "nekbrod --help")
     for n in ("", "ten", "-1", "+1", "1.5", "0x10", " 5", "5 ", "5\n", "٣", "1_0"):
         ran = copy.run(*ROAD, n)
@@ -507,6 +524,10 @@ def bad_arguments(work, copy):
     stopped("a sheet of 65,536 bytes", copy.run(ROAD[0], long, "2"), 2,
             "the opinion sheet .* is longer than 65535 bytes")
     stopped("a tree of 65,536 bytes", copy.run(long, ROAD[1], "2"), 2, "the tree file .* is longer than 65535 bytes")
+    for name, file, words in (("no such tree", none, "there is no tree file .*none$"),
+                              ("an empty name", "", "there is no tree file"), ("a folder", work, "is not a file"),
+                              ("65,536 bytes", long, "the tree file .* is longer than 65535 bytes")):
+        stopped(f"cut-sets, {name}", copy.run("cut-sets", file), 2, words)
     hold("bad arguments: rt is not asked", copy.calls() == [])
     shut = write(os.path.join(work, "shut"), read(ROAD[0]))
     os.chmod(shut, 0)
@@ -517,8 +538,178 @@ def bad_arguments(work, copy):
             "the tree file .*shut cannot be read: Permission denied")
 
 
+def kinds_and_links(file):
+    """The kind of each node of a tree file, and the nodes that each gate joins."""
+    def number(at):
+        return int.from_bytes(file[at:at + 2], "little")
+
+    nodes = []
+    for at in range(9, 9 + 5 * number(7), 5):
+        links = 9 + 5 * number(7) + 2 * number(at + 1)
+        inputs = [number(links + 2 * j) for j in range(number(at + 3))] if file[at] else []
+        nodes.append((file[at], number(at + 1), inputs))
+    return nodes
+
+
+def top_fails(nodes, failed):
+    """Whether the root fails where exactly these events have failed."""
+    fails = []
+    for kind, a, inputs in nodes:
+        fails.append(a in failed if kind == 0 else (all, any)[kind - 1](fails[i] for i in inputs))
+    return fails[-1]
+
+
+def minimal_cut_sets(file):
+    """By trying every set of events: those under which the root fails, and under no set strictly inside."""
+    nodes = kinds_and_links(file)
+    events = [a for kind, a, _ in nodes if kind == 0]
+    found = []
+    for size in range(len(events) + 1):
+        for chosen in map(set, itertools.combinations(events, size)):
+            if not any(inner < chosen for inner in found) and top_fails(nodes, chosen):
+                found.append(chosen)
+    return found
+
+
+def sets_of_lines(ran):
+    """The sets that were printed, each as its line says, and whether every line has rising numbers."""
+    lines = [line.split(" ") for line in ran.out.decode("latin-1").splitlines()[1:]]
+    rising = all(word == str(int(word)) for line in lines for word in line) and all(
+        int(one) < int(other) for line in lines for one, other in zip(line, line[1:]))
+    return [frozenset(map(int, line)) for line in lines] if rising else None
+
+
+def sets_printed(name, ran, file):
+    """A header, and every minimal cut set once."""
+    due = minimal_cut_sets(file)
+    events = sum(kind == 0 for kind, _, _ in kinds_and_links(file))
+    header = f"tree {int.from_bytes(file[5:7], 'little')} events {events} cut sets {len(due)}\n"
+    hold(f"{name}: status", ran.status == 0, ran)
+    hold(f"{name}: header", ran.out.startswith(header.encode()), ran)
+    found = sets_of_lines(ran)
+    hold(f"{name}: each set once", found is not None and len(found) == len(due)
+         and set(found) == set(map(frozenset, due)), ran)
+    hold(f"{name}: no errors", ran.errors == "", ran)
+
+
+def joined(kind, *inputs):
+    """A gate over these; a number is so many basic events."""
+    return kind, inputs
+
+
+def tree_of(root, number=7):
+    """The tree file of a gate, inputs before their gates."""
+    records, links, events = [], [], itertools.count()
+
+    def put(node):
+        if node is None:
+            records.append((0, next(events), 0))
+        else:
+            kind, inputs = node
+            below = [put(i) for given in inputs for i in ([None] * given if isinstance(given, int) else [given])]
+            records.append((kind, len(links), len(below)))
+            links.extend(below)
+        return len(records) - 1
+
+    put(root)
+    return tree(records, links, number)
+
+
+AND, OR = 1, 2
+LISTED = [
+    ("one event", ONE),
+    ("an OR of two", TWO),
+    ("an AND of three", tree_of(joined(AND, 3))),
+    ("an OR of ANDs", tree_of(joined(OR, joined(AND, 2), joined(AND, 3), 1))),
+    ("an AND of ORs", tree_of(joined(AND, joined(OR, 2), joined(OR, 3), 2), number=65535)),
+    ("gates with one input", tree_of(joined(OR, joined(AND, joined(OR, joined(AND, joined(OR, 2), 1)))))),
+    ("three layers", tree_of(joined(AND, joined(OR, joined(AND, 2, joined(OR, 2)), 1), joined(OR, 2, joined(AND, 2))))),
+    ("sixteen inputs", tree_of(joined(OR, 16))),
+]
+SIXTY_FOUR = tree_of(joined(OR, *[joined(OR, 16)] * 4))
+SIXTY_FIVE = tree_of(joined(OR, *[joined(OR, 16)] * 4, 1))
+LARGE = tree_of(joined(OR, *[joined(OR, *[joined(OR, 16)] * 8)] * 7))
+MOST_LISTED = tree_of(joined(AND, *[joined(OR, 10)] * 5))
+TOO_MANY = tree_of(joined(AND, *[joined(OR, 10)] * 5, joined(OR, 2)))
+MOST_COUNTED = tree_of(joined(AND, *[joined(OR, 4)] * 16))
+
+
+def cut_sets(work, copy):
+    name = os.path.join(work, "a tree alone")
+
+    def ask(file, **more):
+        return copy.run("cut-sets", write(name, file), **more)
+
+    for what, file in LISTED:
+        sets_printed(what, ask(file), file)
+    ran = ask(SIXTY_FOUR)
+    hold("64 events: header", ran.out.startswith(b"tree 7 events 64 cut sets 64\n") and ran.status == 0, ran)
+    hold("64 events: each alone", sorted(sets_of_lines(ran) or [], key=min) == [{event} for event in range(64)], ran)
+    ran = ask(tree_of(joined(AND, *[joined(AND, 16)] * 4)))
+    hold("64 events of one set", ran.out.split(b"\n")[1].split() == [str(e).encode() for e in range(64)], ran)
+    ran = ask(MOST_LISTED)
+    hold("100,000 sets: status", ran.status == 0 and ran.errors == "", ran)
+    found = sets_of_lines(ran) or []
+    hold("100,000 sets: each once", len(found) == len(set(found)) == 100000, ran)
+    hold("100,000 sets: one event of each ten",
+         all(sorted(event // 10 for event in chosen) == [0, 1, 2, 3, 4] for chosen in found), ran)
+    for file, count, events in (TOO_MANY, 200000, 52), (MOST_COUNTED, 4 ** 16, 64):
+        ran = ask(file)
+        hold(f"{count} sets: status", ran.status == 4, ran)
+        hold(f"{count} sets: the header alone", ran.out == f"tree 7 events {events} cut sets {count}\n".encode(), ran)
+        hold(f"{count} sets: said", ran.errors == f"nekbrod: no set is listed: the tree has {count} minimal cut sets, "
+             "and at most 100000 are listed\n", ran)
+    hold("cut sets: rt is asked", copy.calls()[-1:] == ["check cut_set_lines"])
+    refused_sets(name, ask)
+    sets_unwritten(copy, ask)
+
+
+def refused_sets(name, ask):
+    rows = table_rows()
+    for what, file, _, _, line, which, of, found in REFUSED:
+        if of == "tree":
+            number, place = int(line.split()[1]), line.split()[3]
+            cells = rows[number][which]
+            refused(f"cut sets: {what}", ask(file), line,
+                    f"refusal {number}: {cells[0]}. The tree file {name}, byte {place}: {found}", f"aboard: {cells[3]}")
+    for file, events in (SIXTY_FIVE, 65), (LARGE, 896):
+        refused(f"{events} events", ask(file), "refused 26 at 0",
+                f"refusal 26: {rows[26][0][0]}. The tree file {name} has {events} basic events; allowed: at most 64",
+                f"aboard: {rows[26][0][3]}")
+    for length in (7176, 65535):
+        ran = ask(ONE + bytes(length - len(ONE)))
+        refused(f"cut sets: a tree of {length} bytes", ran, f"refused 5 at {length}",
+                f"refusal 5: {rows[5][0][0]}. The tree file {name}, byte {length}: the file has {length} bytes; "
+                "allowed: 14, which is 7 × N + 7 for N = 1", f"aboard: {rows[5][0][3]}")
+
+
+def sets_unwritten(copy, ask):
+    if os.path.exists("/dev/full"):
+        with open("/dev/full", "wb") as full:
+            ran = ask(TWO, stdout=full)
+        hold("cut sets, a full disk", ran.status == 3 and len(ran.lines) == 1
+             and "could not be written: No space left" in ran.errors, ran)
+    for text, words in (("", "neither cut sets nor a refusal"), ("hello", "neither cut sets nor a refusal"),
+                        ("tree 7 events 2", "neither cut sets nor a refusal"),
+                        ("tree 7 events 2 cut sets 2\n0", "counted 2 sets and listed 1"),
+                        ("tree 7 events 2 cut sets 100000", "counted 100000 sets and listed 0"),
+                        ("tree 7 events 2 cut sets 100001\n0", "counted 100001 sets and listed 1")):
+        copy.change(f"#!/bin/sh\necho '{text}'\n", "cut_set_lines")
+        stopped(f"a cut set printer that prints {text!r}", last_of(ask(TWO)), 3, words)
+    copy.change("#!/bin/sh\nexit 7\n", "cut_set_lines")
+    stopped("a cut set printer that fails", last_of(ask(TWO)), 3, "the cut set printer ended with status 7")
+    copy.change("#!/bin/sh\necho refused 13 at 0\n", "cut_set_lines")
+    ran = ask(TWO)
+    hold("a refusal that is none of its own", ran.status == 1 and "Traceback" not in ran.errors
+         and "docs/REFUSALS.md" in ran.lines[-1], ran)
+    copy.change(read(CUT_SETS), "cut_set_lines")
+    ask(TWO)
+
+
 def building(copy):
-    stopped("nothing built and no rt", copy.run(*ROAD, "2"), 3, "not built.*rt is not on the path")
+    stopped("nothing built and no rt", copy.run(*ROAD, "2"), 3, "the level printer is not built.*rt is not on the path")
+    stopped("cut-sets, nothing built and no rt", copy.run("cut-sets", ROAD[0]), 3,
+            "the cut set printer is not built.*rt is not on the path")
     copy.stand_in()
     ran = copy.run()
     printed("a first run", ran, FUEL_LEVELS)
@@ -542,13 +733,32 @@ def building(copy):
     ran = copy.run(*ROAD, "2")
     printed("another source with an old date", ran, b"tree of another source\n")
     hold("another source: said", "nekbrod: proving what has changed" in ran.errors, ran)
-    os.utime(copy.source)
+    os.utime(copy.source())
     ran = copy.run(*ROAD, "2")
     hold("a new date alone: nothing proved", ran.errors == "", ran)
     copy.stand_in(begin="sleep 2")
     ran = copy.run(*ROAD, "2")
     hold("a slow rt where nothing changed: nothing said", ran.errors == "" and ran.status == 0, ran)
+    building_sets(copy)
     without_rt(copy)
+
+
+def building_sets(copy):
+    """Each program is built when it is first asked for."""
+    copy.stand_in()
+    ran = copy.run("cut-sets", ROAD[0])
+    hold("a first run of cut-sets: its text", ran.status == 0 and ran.out.startswith(b"tree 1 events 3 cut sets "), ran)
+    hold("a first run of cut-sets: what it does", "proving and building the cut set printer" in ran.errors, ran)
+    hold("a first run of cut-sets: the call", copy.calls() == ["check cut_set_lines"], ran)
+    sets_printed("a second run of cut-sets", copy.run("cut-sets", ROAD[0]), read(ROAD[0]))
+    os.remove(os.path.join(copy.target, "stamp/cut_set_lines"))
+    copy.stand_in(status=1)
+    ran = copy.run("cut-sets", ROAD[0])
+    hold("cut-sets, a build that fails: status", ran.status == 3 and ran.out == b"", ran)
+    hold("cut-sets, a build that fails: said", "'rt check cut_set_lines' failed: it ended with status 1" in ran.errors
+         and "no cut set is printed; " in ran.lines[-1], ran)
+    copy.stand_in()
+    printed("the levels after it", copy.run(*ROAD, "2"), b"tree of another source\n")
 
 
 def without_rt(copy):
@@ -790,6 +1000,14 @@ def terminals(copy):
     text = os.read(ours, 65536).decode()
     os.close(ours)
     hold("on a terminal: the marks explained", text.endswith("= exact, ~ rounded outward\r\n"))
+    copy.run("cut-sets", ROAD[0])
+    ours, theirs = pty.openpty()
+    process = copy.start("cut-sets", ROAD[0], stdout=theirs, stderr=theirs)
+    os.close(theirs)
+    process.wait(timeout=LONGEST)
+    text = os.read(ours, 65536).decode()
+    os.close(ours)
+    hold("on a terminal: a set explained", text.endswith("that fail the top event together\r\n"))
 
 
 def other_program(copy, commands):
@@ -851,9 +1069,10 @@ def outputs(copy):
 
 
 def main():
-    if not os.access(LEVELS, os.X_OK):
-        print(f"{LEVELS} is not built: rt check levels")
-        return 2
+    for crate, program in PROGRAMS.items():
+        if not os.access(program, os.X_OK):
+            print(f"{program} is not built: rt check {crate}")
+            return 2
     signal.signal(signal.SIGTERM, lambda *_: sys.exit(2))
     os.umask(0o022)
     with tempfile.TemporaryDirectory() as work:
@@ -864,6 +1083,7 @@ def main():
         file_names(work, copy)
         refusals(work, copy)
         calls(work, copy)
+        cut_sets(work, copy)
         outputs(copy)
         bare = Copy(work, "bare copy", built=False)
         building(bare)

@@ -17,6 +17,9 @@ pub enum Call {
     // k and n.
     Judge(u32, u32),
     Question(Question),
+    Count,
+    // The places of the lent slice.
+    CutSets(usize),
     // The list is at its end, or what follows is no call.
     End,
 }
@@ -48,6 +51,8 @@ fn call_of(which: u8, one: u32, two: u32, three: u32, four: u32, five: u32) -> C
             upper: four as usize,
             marks: five as usize,
         }),
+        10 => Call::Count,
+        11 => Call::CutSets(one as usize),
         _ => Call::End,
     }
 }

@@ -20,3 +20,13 @@ pub fn units_front(length: usize, room: &[u32]) -> usize
     }
     length
 }
+
+// Of the slice that minimal cut sets are listed in.
+pub fn sets_front(length: usize, room: &[u64]) -> usize
+    ensures { λ r. ⌜ Counts r (now (room .entry)) ⌝ }
+{
+    if room.len() < length {
+        return room.len();
+    }
+    length
+}

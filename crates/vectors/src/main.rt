@@ -9,6 +9,8 @@ mod front;
 mod hand_in;
 mod print;
 mod run;
+mod set_sums;
+mod sets;
 
 fn main() {
     let mut tree = [0u8; 7200];

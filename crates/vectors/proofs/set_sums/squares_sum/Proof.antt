@@ -1,0 +1,55 @@
+-- `vectors::set_sums::squares_sum` is safe and ends.
+use Prim.Native.Nat.{_-_}
+use lib.ListN.{length}
+use borrow.Author.Needs.{needs}
+use Rattle.vectors.proofs.set_sums.squares_sum.Statement.{statement}
+use Rattle.vectors.proofs.set_sums.squares_sum.Tie as tie
+
+abbrev Inv-loop : tie.InvT-loop
+Inv-loop count sets sum₀ i₀ sum i = Unit {0}
+
+abbrev μ-loop : tie.MeasureT-loop
+μ-loop count sets sum₀ i₀ sum i = length sets - i
+
+loop-holds : tie.Need-loop-holds Inv-loop μ-loop
+loop-holds c = search needs
+
+mul-squared : tie.Need-mul-squared Inv-loop μ-loop
+mul-squared c = search needs
+
+shared-slice-read-squared : tie.Need-shared-slice-read-squared Inv-loop μ-loop
+shared-slice-read-squared c = search needs
+
+squared-requires : tie.Need-squared-requires Inv-loop μ-loop
+squared-requires c κs = search needs
+
+with-set-requires : tie.Need-with-set-requires Inv-loop μ-loop
+with-set-requires c κs = search needs
+
+add-i : tie.Need-add-i Inv-loop μ-loop
+add-i c = search needs
+
+loop-less : tie.Need-loop-less Inv-loop μ-loop
+loop-less c = search needs
+
+loop-again : tie.Need-loop-again Inv-loop μ-loop
+loop-again c = search needs
+
+returns : tie.Need-returns Inv-loop μ-loop
+returns c = search needs
+
+pub squares-sum-spec : {M : Type 1} → statement M
+squares-sum-spec =
+    tie.close
+    (tie.spec
+    Inv-loop
+    μ-loop
+    loop-holds
+    mul-squared
+    shared-slice-read-squared
+    squared-requires
+    with-set-requires
+    add-i
+    loop-less
+    loop-again
+    returns)

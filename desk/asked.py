@@ -1,0 +1,118 @@
+# What is put to a program, a pair of files and a number of levels or a tree file alone, and what the program prints.
+import os
+import re
+import subprocess
+import tempfile
+
+from desk.child import Child, status_in_words
+from desk.screen import Stop
+
+# The largest number of the input's fields, which have 16 bits.
+LARGEST = 65535
+
+
+# The most sets that the cut set printer lists.
+MOST_SETS = 100000
+
+
+class Pair:
+    """A tree file, an opinion sheet and a number of levels, for the level printer."""
+
+    def __init__(self, tree_name, sheet_name, levels_word):
+        self.levels = read_levels(levels_word)
+        self.tree_name, self.tree = tree_name, read_file("tree file", tree_name)
+        self.sheet_name, self.sheet = sheet_name, read_file("opinion sheet", sheet_name)
+
+    def files(self):
+        return [("tree file", self.tree_name, self.tree), ("opinion sheet", self.sheet_name, self.sheet)]
+
+    def program_input(self):
+        lengths = (self.levels, len(self.tree), len(self.sheet))
+        return b"".join(number.to_bytes(2, "little") for number in lengths) + self.tree + self.sheet
+
+
+class TreeFile:
+    """A tree file alone, for the cut set printer."""
+
+    levels = None
+
+    def __init__(self, name):
+        self.name, self.tree = name, read_file("tree file", name)
+
+    def files(self):
+        return [("tree file", self.name, self.tree)]
+
+    def program_input(self):
+        return self.tree
+
+
+def read_levels(word):
+    """A number from 0 to 65,535; the level printer judges it."""
+    if not re.fullmatch("[0-9]+", word):
+        raise Stop(2, f"the number of levels is a number, not '{word}'")
+    digits = word.lstrip("0") or "0"
+    if len(digits) > 5 or int(digits) > LARGEST:
+        raise Stop(2, f"the number of levels is at most {LARGEST}, not {word}")
+    return int(digits)
+
+
+def read_file(what, name):
+    """The bytes of a file of at most 65,535."""
+    if not os.path.exists(name):
+        raise Stop(2, f"there is no {what} {name}")
+    if not os.path.isfile(name):
+        raise Stop(2, f"the {what} {name} is not a file")
+    try:
+        with open(name, "rb") as file:
+            data = file.read(LARGEST + 1)
+    except OSError as error:
+        raise Stop(2, f"the {what} {name} cannot be read: {error.strerror}") from None
+    if len(data) > LARGEST:
+        raise Stop(2, f"the {what} {name} is longer than {LARGEST} bytes")
+    return data
+
+
+def run(title, program, asked, signals, **more):
+    """What a program prints."""
+    text = b""
+    try:
+        with tempfile.TemporaryFile() as given:
+            given.write(asked.program_input())
+            given.seek(0)
+            with Child(signals, [program], stdin=given, **more) as child:
+                piece = child.read()
+                while piece:
+                    text += piece
+                    piece = child.read()
+                status = child.status()
+    except OSError as error:
+        raise Stop(3, f"{title} could not be run: {error}") from None
+    if status != 0:
+        raise Stop(3, f"{title} {status_in_words(status)}")
+    return text
+
+
+def levels_text(program, pair, signals):
+    """The level printer's text: levels, or one line of a refusal."""
+    text = run("the level printer", program, pair, signals)
+    if not text.startswith((b"tree ", b"refused ", b"input")):
+        raise Stop(3, "the level printer gave neither levels nor a refusal")
+    return text
+
+
+def sets_text(program, tree_file, signals):
+    """The cut set printer's text, sets or one line of a refusal, and their count where they are not listed."""
+    # What it says on standard error is said by the command, in its own words.
+    text = run("the cut set printer", program, tree_file, signals, stderr=subprocess.DEVNULL)
+    if text.startswith(b"refused "):
+        return text, None
+    header, _, lines = text.partition(b"\n")
+    matched = re.fullmatch(rb"tree [0-9]+ events [0-9]+ cut sets ([0-9]+)", header)
+    if not matched:
+        raise Stop(3, "the cut set printer gave neither cut sets nor a refusal")
+    count, listed = int(matched.group(1)), lines.count(b"\n")
+    if count > MOST_SETS and not lines:
+        return text, count
+    if listed != count or not text.endswith(b"\n"):
+        raise Stop(3, f"the cut set printer counted {count} sets and listed {listed}")
+    return text, None
