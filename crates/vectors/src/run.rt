@@ -44,18 +44,6 @@ fn after_hand_in(state: State, call: Call, tree: &mut [u8], sheet: &mut [u8]) ->
     }
 }
 
-// The state after a call on the cut sets, a hand-in, a drop or a setting.
-fn after_sets(state: State, call: Call, tree: &mut [u8], sheet: &mut [u8]) -> State {
-    match call {
-        Call::Count => {
-            call_count(state, tree, sheet);
-            state
-        }
-        Call::CutSets(places) => call_cut_sets(state, places, tree, sheet),
-        _ => after_hand_in(state, call, tree, sheet),
-    }
-}
-
 // Answers a call on these stores and prints what there is after it: the state for the next call.
 fn after_call(state: State, call: Call, tree: &mut [u8], sheet: &mut [u8]) -> State {
     match call {
@@ -64,7 +52,12 @@ fn after_call(state: State, call: Call, tree: &mut [u8], sheet: &mut [u8]) -> St
             state
         }
         Call::Question(question) => call_question(state, question, tree, sheet),
-        _ => after_sets(state, call, tree, sheet),
+        Call::Count => {
+            call_count(state, tree, sheet);
+            state
+        }
+        Call::CutSets(places) => call_cut_sets(state, places, tree, sheet),
+        _ => after_hand_in(state, call, tree, sheet),
     }
 }
 

@@ -4,25 +4,18 @@
 // Every place before a call: ee in every byte.
 pub const FILL: u64 = 17216961135462248174;
 
-// A set's number modulo the prime.
-fn reduced(set: u64) -> u64 {
+// What a set adds to a sum: its number, or the square of its number, modulo the prime.
+fn term(square: bool, set: u64) -> u64 {
+    if square {
+        return (set % 4294967291) * (set % 4294967291) % 4294967291;
+    }
     set % 4294967291
 }
 
-// The sum after one more place.
-fn with_place(sum: u64, place: u64) -> u64 {
-    (sum % 4294967291 + place % 4294967291) % 4294967291
-}
-
-// The square of a set's number modulo the prime.
-fn squared(set: u64) -> u64 {
-    (set % 4294967291) * (set % 4294967291) % 4294967291
-}
-
 // The sum after place i, which counts if it is below the count of sets.
-fn with_set(sum: u64, i: usize, count: u64, place: u64) -> u64 {
+fn with_term(sum: u64, i: usize, count: u64, term: u64) -> u64 {
     if (i as u64) < count {
-        return with_place(sum, place);
+        return (sum % 4294967291 + term % 4294967291) % 4294967291;
     }
     sum
 }
@@ -38,21 +31,12 @@ fn with_left(left: u64, i: usize, count: u64, place: u64) -> u64 {
     left
 }
 
-pub fn sets_sum(count: u64, sets: &[u64]) -> u64 {
+// The sum of the sets below the count, or of their squares.
+pub fn sets_sum(square: bool, count: u64, sets: &[u64]) -> u64 {
     let mut sum = 0;
     let mut i = 0;
     while i < sets.len() {
-        sum = with_set(sum, i, count, reduced(sets[i]));
-        i += 1;
-    }
-    sum
-}
-
-pub fn squares_sum(count: u64, sets: &[u64]) -> u64 {
-    let mut sum = 0;
-    let mut i = 0;
-    while i < sets.len() {
-        sum = with_set(sum, i, count, squared(sets[i]));
+        sum = with_term(sum, i, count, term(square, sets[i]));
         i += 1;
     }
     sum

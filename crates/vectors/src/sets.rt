@@ -10,23 +10,18 @@ use crate::print::print_text;
 use crate::set_sums::FILL;
 use crate::set_sums::places_left;
 use crate::set_sums::sets_sum;
-use crate::set_sums::squares_sum;
 use cut_sets::count::count_sets;
 use cut_sets::list::list_sets;
 use cut_sets::outcome::Outcome;
 use monitor::state::State;
 
-fn print_count(count: u64) {
-    print_text(b"cut sets ");
-    print_decimal(count);
-    print_line_end();
-}
-
 // Prints the count or the refusal; the count, 0 where refused.
 fn print_counted(outcome: Outcome) -> u64 {
     match outcome {
         Outcome::Counted(count) => {
-            print_count(count);
+            print_text(b"cut sets ");
+            print_decimal(count);
+            print_line_end();
             count
         }
         Outcome::Refused(refusal) => {
@@ -47,9 +42,9 @@ fn print_sets(count: u64, sets: &[u64]) {
     print_text(b"sets ");
     print_number(sets.len());
     print_space();
-    print_decimal(sets_sum(count, sets));
+    print_decimal(sets_sum(false, count, sets));
     print_space();
-    print_decimal(squares_sum(count, sets));
+    print_decimal(sets_sum(true, count, sets));
     print_text(b" left ");
     print_decimal(places_left(count, sets));
     print_line_end();

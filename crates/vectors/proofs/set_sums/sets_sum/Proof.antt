@@ -6,25 +6,25 @@ use Rattle.vectors.proofs.set_sums.sets_sum.Statement.{statement}
 use Rattle.vectors.proofs.set_sums.sets_sum.Tie as tie
 
 abbrev Inv-loop : tie.InvT-loop
-Inv-loop count sets sum₀ i₀ sum i = Unit {0}
+Inv-loop square count sets sum₀ i₀ sum i = Unit {0}
 
 abbrev μ-loop : tie.MeasureT-loop
-μ-loop count sets sum₀ i₀ sum i = length sets - i
+μ-loop square count sets sum₀ i₀ sum i = length sets - i
 
 loop-holds : tie.Need-loop-holds Inv-loop μ-loop
 loop-holds c = search needs
 
-mul-reduced : tie.Need-mul-reduced Inv-loop μ-loop
-mul-reduced c = search needs
+mul-term : tie.Need-mul-term Inv-loop μ-loop
+mul-term c = search needs
 
-shared-slice-read-reduced : tie.Need-shared-slice-read-reduced Inv-loop μ-loop
-shared-slice-read-reduced c = search needs
+shared-slice-read-term : tie.Need-shared-slice-read-term Inv-loop μ-loop
+shared-slice-read-term c = search needs
 
-reduced-requires : tie.Need-reduced-requires Inv-loop μ-loop
-reduced-requires c κs = search needs
+term-requires : tie.Need-term-requires Inv-loop μ-loop
+term-requires c κs = search needs
 
-with-set-requires : tie.Need-with-set-requires Inv-loop μ-loop
-with-set-requires c κs = search needs
+with-term-requires : tie.Need-with-term-requires Inv-loop μ-loop
+with-term-requires c κs = search needs
 
 add-i : tie.Need-add-i Inv-loop μ-loop
 add-i c = search needs
@@ -45,10 +45,10 @@ sets-sum-spec =
     Inv-loop
     μ-loop
     loop-holds
-    mul-reduced
-    shared-slice-read-reduced
-    reduced-requires
-    with-set-requires
+    mul-term
+    shared-slice-read-term
+    term-requires
+    with-term-requires
     add-i
     loop-less
     loop-again

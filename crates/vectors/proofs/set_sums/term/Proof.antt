@@ -1,12 +1,12 @@
--- `vectors::set_sums::squared` is safe and ends: a product of remainders below 2^32 fits 64 bits.
+-- `vectors::set_sums::term` is safe and ends: a product of remainders below 2^32 fits 64 bits.
 use Prim.Native.Nat.{ℕ, _*_, _%_, _≤_}
 use borrow.Author.Needs.{needs}
 use mir.Syntax.{w64}
 use mir.Val.{Fits}
 use native.Mathlib.Nat.{mul-le-mul}
 use native.Mathlib.Omega.{arith}
-use Rattle.vectors.proofs.set_sums.squared.Statement.{statement}
-use Rattle.vectors.proofs.set_sums.squared.Tie as tie
+use Rattle.vectors.proofs.set_sums.term.Statement.{statement}
+use Rattle.vectors.proofs.set_sums.term.Tie as tie
 
 square-fits : (set : ℕ) → Fits w64 ((set % 4294967291) * (set % 4294967291))
 square-fits set =
@@ -20,5 +20,8 @@ mul-result c = square-fits _
 returns : tie.Need-returns
 returns c = search needs
 
-pub squared-spec : {M : Type 1} → statement M
-squared-spec = tie.close (tie.spec mul-result returns)
+returns-2 : tie.Need-returns-2
+returns-2 c = search needs
+
+pub term-spec : {M : Type 1} → statement M
+term-spec = tie.close (tie.spec mul-result returns returns-2)
