@@ -5,6 +5,7 @@ import fcntl
 import os
 import shutil
 import subprocess
+import tempfile
 import time
 
 from desk.child import Child, status_in_words
@@ -119,8 +120,8 @@ def prove(desk, rt, signals, lock):
             os.remove(desk.stamp)
     report = Report(desk, first)
     try:
-        with open(desk.log, "wb") as log, Child(
-                signals, [rt, "check", desk.crate], kept=(lock,), cwd=desk.home,
+        with open(desk.log, "wb") as log, temporary_folder() as folder, Child(
+                signals, [rt, "check", desk.crate], kept=(lock,), cwd=desk.home, env={**os.environ, "TMPDIR": folder},
                 stdin=subprocess.DEVNULL, stderr=subprocess.STDOUT) as child:
             piece = None
             while piece != b"":
@@ -139,6 +140,21 @@ def prove(desk, rt, signals, lock):
         raise Stop(3, f"no {desk.prints} is printed; {desk.log} has all that rt said")
     if not desk.is_built():
         raise Stop(3, f"'{desk.check}' left no program at {desk.program}; {desk.log} has all that rt said")
+
+
+@contextlib.contextmanager
+def temporary_folder():
+    """A place for rt's temporary files: a prover that is ended leaves up to some hundred megabytes of them."""
+    outer = tempfile.mkdtemp(prefix="nekbrod-")
+    try:
+        # A program that rt runs as nobody must reach its files.
+        os.chmod(outer, 0o711)
+        inner = os.path.join(outer, "tmp")
+        os.mkdir(inner)
+        os.chmod(inner, 0o1777)
+        yield inner
+    finally:
+        shutil.rmtree(outer, ignore_errors=True)
 
 
 class Report:

@@ -862,9 +862,11 @@ def is_alive(pid):
 
 
 def long_build(copy, trap=""):
-    """A build with children of its own that would take minutes; its ids go to a note."""
+    """A build with children and a temporary file that would take minutes; its ids and the file's folder go to notes."""
     copy.empty()
     copy.stand_in(before=f"""{trap}
+echo >"$TMPDIR/left"
+echo "$TMPDIR" >'{copy.notes}/temporary'
 sleep 300 >/dev/null 2>&1 &
 one=$!
 (sleep 300; true) >/dev/null 2>&1 &
@@ -875,7 +877,8 @@ wait""")
 def interrupted(name, copy, process, number):
     """After a signal nothing is left, the status is 128 + it, and the next run ends right."""
     hold(f"{name}: it builds", until(lambda: copy.note("ids").endswith("\n")))
-    pids = copy.note("ids").split()
+    pids, folder = copy.note("ids").split(), copy.note("temporary").strip()
+    hold(f"{name}: its temporary file", os.path.exists(os.path.join(folder, "left")))
     time.sleep(0.1)
     hold(f"{name}: its children live", len(pids) == 3 and all(map(is_alive, pids)))
     began = time.monotonic()
@@ -886,6 +889,7 @@ def interrupted(name, copy, process, number):
     hold(f"{name}: nothing printed", ran.out == b"", ran)
     hold(f"{name}: said", f"nekbrod: ended by {signal.Signals(number).name}\n" in ran.errors, ran)
     hold(f"{name}: no child left", not any(map(is_alive, pids)), ran)
+    hold(f"{name}: no temporary file left", not os.path.exists(os.path.dirname(folder) if folder else "/"), ran)
     copy.stand_in()
     printed(f"{name}: the next run", copy.run(*ROAD, "2"), ROAD_LEVELS)
     return took
