@@ -1,4 +1,5 @@
 -- `cut_sets::list::listed` meets its contract.
+use native.Mathlib.Omega.{arith}
 use borrow.Author.Needs.{needs}
 use Rattle.cut_sets.proofs.Outcomes.{list-short, list-written}
 use Rattle.cut_sets.proofs.list.listed.Statement.{statement}
@@ -25,14 +26,16 @@ returns c =
     let fits = written .before .before .before in
     let counted = fits .before .before in
     let start = counted .before .before .before .before in
-    list-written (start .pre .0) (start .pre .1) (counted .count-beneath .ensures .0) _ _ (fits .if1 .taken)
+    list-written (start .pre .0) (start .pre .1) (counted .count-beneath .ensures .0) _ _
+    (omega (arith, fits .if1 .taken))
     (written .write-sets .ensures) (written .write-sets .kept .1 .1 .1 .1 .0)
 
 returns-2 : tie.Need-returns-2
 returns-2 c =
     let counted = c .before .before in
     let start = counted .before .before .before .before in
-    list-short (start .pre .0) (start .pre .1) (counted .count-beneath .ensures .0) _ (c .if1 .left)
+    list-short (start .pre .0) (start .pre .1) (counted .count-beneath .ensures .0) _
+    (omega (arith, c .if1 .left))
 
 pub listed-spec : {M : Type 1} → statement M
 listed-spec =
