@@ -1,26 +1,26 @@
 -- The judging of the held tree before its sets are counted, rule by rule, and what a tree is that is ready.
 use Prim.Native.Nat.{ℕ, _≤_, _<_}
-use mathlib.Core.Path.{_≡_, refl, sym, ap, _∙_}
+use mathlib.Core.Path.{_≡_, sym, ap, _∙_}
 use mathlib.Core.List.{List, [], _∷_}
 use native.Mathlib.Omega.{arith}
 use lib.ListN.{length}
-use lib.Dec.{leb}
 use borrow.Author.Tests.{le-leb, lt-leb, leb-true}
-use Rattle.refusals.specs.FirstFault.{_or-else_, first-of, unless}
-use Rattle.refusals.specs.declared.rule.Rule.the-variants.{Changed, ManyEvents}
+use Rattle.refusals.specs.FirstFault.{_or-else_, first-of}
+use Rattle.refusals.specs.declared.rule.Rule.the-variants.{ManyEvents}
 use Rattle.refusals.specs.declared.refusal.Refusal.{Refusal}
 use Rattle.refusals.specs.declared.refusal.FirstFault.{FirstFault}
 use Rattle.refusals.specs.declared.refusal.FirstFault.the-variants.{Found, Absent}
-use Rattle.refusals.proofs.FirstFault.{both-absent, first-of-absent, first-of-append, found-not-absent, unless-holds}
+use Rattle.refusals.proofs.FirstFault.{first-of-absent, first-of-append, unless-holds}
 use Rattle.tree_file.specs.Judged.{fault-of as tree-fault, counts-of as tree-counts}
 use Rattle.tree_file.specs.declared.judgement.Counts.{Counts}
 use Rattle.tree_file.proofs.Accepted.{accepted-well-formed}
-use Rattle.monitor.specs.Standing.{changed, changed-by, held, held-tree, tree-rules, tree-standing}
+use Rattle.monitor.specs.Standing.{held-tree, tree-rules, tree-standing}
 use Rattle.monitor.specs.Question.{root}
 use Rattle.monitor.specs.declared.state.State.{State}
 use Rattle.monitor.specs.declared.held.Standing.{Standing}
 use Rattle.monitor.specs.declared.held.Standing.the-variants.{Ready, Refused}
 use Rattle.monitor.proofs.Standing.{ready-absent, standing-found}
+use Rattle.monitor.proofs.Ready.{unchanged}
 use Rattle.cut_sets.specs.Judged.{count-rules, count-standing, many-events, most-events}
 use Rattle.cut_sets.specs.Requirements.{Small}
 
@@ -64,19 +64,6 @@ module _ (state : State) (tree-store : List ℕ) where
       events-many l =
           let many = lt-leb (tree-counts tree .events) most-events (rw (ready-own .1) at l) in
           rw (fault-is Absent (ready-own .0), many)
-
--- Only an absent fault is no change.
-unchanged-by : (place : ℕ) (f : FirstFault) → changed-by place f or-else Absent ≡ Absent → f ≡ Absent
-unchanged-by place Absent e = refl
-unchanged-by place (Found r) e = found-not-absent e
-
--- A file that has not changed is inside its store and without a fault.
-unchanged : (place : ℕ) (fault : List ℕ → FirstFault) (len : ℕ) (store : List ℕ)
-    → changed place fault len store ≡ Absent → (len ≤ length store) × (fault (held len store) ≡ Absent)
-unfolding changed
-unchanged place fault len store e =
-    let both = both-absent (unless (leb len (length store)) Changed place) _ e in
-    (leb-true len (length store) (unless-holds _ _ _ (both .0)), unchanged-by place _ (both .1))
 
 -- A tree whose sets can be counted: it is inside its store, small, and the counts are its own.
 pub record Ready-tree (state : State) (tree-store : List ℕ) (counts : Counts) : Type 0 where

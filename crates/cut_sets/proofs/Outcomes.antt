@@ -12,7 +12,7 @@ use Rattle.refusals.specs.declared.rule.Rule.the-variants.{ShortList}
 use Rattle.refusals.specs.declared.refusal.Refusal.{Refusal}
 use Rattle.refusals.specs.declared.refusal.FirstFault.{FirstFault}
 use Rattle.refusals.specs.declared.refusal.FirstFault.the-variants.{Found, Absent}
-use Rattle.refusals.proofs.FirstFault.{first-of-append}
+use Rattle.refusals.proofs.FirstFault.{first-of-append, or-else-absent}
 use Rattle.tree_file.specs.WellFormed.{WellFormed}
 use Rattle.tree_file.specs.NodeTable.{fault-tree, rank, table-of}
 use Rattle.tree_file.specs.declared.judgement.Counts.{Counts}
@@ -30,11 +30,6 @@ use Rattle.cut_sets.specs.Requirements.{Small, Written, node-sets}
 use Rattle.cut_sets.specs.declared.outcome.Outcome.{Outcome}
 use Rattle.cut_sets.specs.declared.outcome.Outcome.the-variants.{Counted, Refused}
 use Rattle.cut_sets.proofs.Judging.{Ready-tree, ready-tree}
-
--- the last rule of a list is followed by none
-or-else-absent : (f : FirstFault) → f or-else Absent ≡ f
-or-else-absent Absent = refl
-or-else-absent (Found r) = refl
 
 module _ (state : State) (tree-store : List ℕ) (found : Standing)
     (e : found ≡ count-standing state tree-store) where

@@ -31,7 +31,7 @@ unchanged-by place Absent e = refl
 unchanged-by place (Found r) e = found-not-absent e
 
 -- A file that has not changed is inside its store and without a fault.
-unchanged : (place : ℕ) (fault : List ℕ → FirstFault) (len : ℕ) (store : List ℕ)
+pub unchanged : (place : ℕ) (fault : List ℕ → FirstFault) (len : ℕ) (store : List ℕ)
     → changed place fault len store ≡ Absent → (len ≤ length store) × (fault (held len store) ≡ Absent)
 unfolding changed
 unchanged place fault len store e =

@@ -7,7 +7,7 @@ use native.Mathlib.Omega.{arith}
 use lib.ListN.{length}
 use lib.Dec.{leb}
 use borrow.Author.Tests.{le-leb, lt-leb}
-use Rattle.refusals.specs.FirstFault.{_or-else_}
+use Rattle.refusals.proofs.FirstFault.{or-else-absent}
 use Rattle.refusals.specs.declared.rule.Rule.{Rule}
 use Rattle.refusals.specs.declared.rule.Rule.the-variants.{NoTree, NoSheet, Changed, OtherTree, WrongLevel}
 use Rattle.refusals.specs.declared.refusal.Refusal.{Refusal}
@@ -54,11 +54,6 @@ ready-absent (Found r) own c e = let z : _≡_ {A = ℕ} 0 1 = cc in absurd (ome
 pub standing-found : (f : FirstFault) (own : Counts) (r : Refusal) → standing-by f own ≡ Refused r → f ≡ Found r
 standing-found Absent own r e = let z : _≡_ {A = ℕ} 0 1 = cc in absurd (omega arith)
 standing-found (Found q) own r e = cc
-
--- The last rule of a list is followed by none.
-or-else-absent : (f : FirstFault) → f or-else Absent ≡ f
-or-else-absent Absent = refl
-or-else-absent (Found r) = refl
 
 -- A refusal that names no place.
 abbrev refusal : Rule → Standing

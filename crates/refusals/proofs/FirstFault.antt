@@ -24,6 +24,11 @@ pub both-absent : (f g : FirstFault) → f or-else g ≡ Absent → (f ≡ Absen
 both-absent Absent g e = (refl, e)
 both-absent (Found r) g e = found-not-absent e
 
+-- A fault that no rule follows stands alone.
+pub or-else-absent : (f : FirstFault) → f or-else Absent ≡ f
+or-else-absent Absent = refl
+or-else-absent (Found r) = refl
+
 -- A rule without a fault is kept.
 pub unless-holds : (b : Bool) (rule : Rule) (place : ℕ) → unless b rule place ≡ Absent → b ≡ true
 unless-holds true rule place e = refl
