@@ -1,8 +1,10 @@
 -- What the two calls answer, by what the judging finds and what is counted.
-use Prim.Native.Nat.{ℕ, _-_, _≤_, _<_}
+use Prim.Native.Nat.{ℕ, _+_, _-_, _≤_, _<_}
 use mathlib.Core.Path.{_≡_, refl, sym, ap, subst, _∙_}
 use mathlib.Core.List.{List, [], _∷_}
-use lib.ListN.{length}
+use native.Mathlib.Omega.{arith}
+use lib.ListN.{length, getD, drop, length-drop}
+use lib.Seq.{ext-getD, getD-drop}
 use borrow.Author.Tests.{le-leb, lt-leb}
 use Rattle.theory.specs.MinimalCutSets.{Enumerates}
 use Rattle.theory.proofs.CutSetsEnumerated.{enumerates-same, family-enumerates}
@@ -26,10 +28,21 @@ use Rattle.monitor.proofs.Standing.{ready-absent, standing-found}
 use Rattle.cut_sets.specs.Judged.{count-outcome, count-rules, count-standing, list-outcome, list-rules}
 use Rattle.cut_sets.specs.Judged.{outcome-by, reply-of, root-tree, set-count, short-list}
 use Rattle.cut_sets.specs.Listed.{Sets-left, listed}
-use Rattle.cut_sets.specs.Requirements.{Small, Written, node-sets}
+use Rattle.cut_sets.specs.Requirements.{Kept-from, Small, Written, node-sets}
 use Rattle.cut_sets.specs.declared.outcome.Outcome.{Outcome}
 use Rattle.cut_sets.specs.declared.outcome.Outcome.the-variants.{Counted, Refused}
 use Rattle.cut_sets.proofs.Judging.{Ready-tree, ready-tree}
+
+-- what is kept place by place from n on is kept as a whole
+kept-rest : (before after : List ℕ) (n : ℕ) → Kept-from n before after → length after ≡ length before
+    → drop n after ≡ drop n before
+kept-rest before after n kept same =
+    ext-getD 0 (drop n after) (drop n before) (rw (length-drop n after, length-drop n before) (ap (λ x. x - n) same)) each
+  where
+    each : (p : ℕ) → p < length (drop n after) → getD (drop n after) p 0 ≡ getD (drop n before) p 0
+    each p l =
+        rw (getD-drop n after p 0, getD-drop n before p 0)
+        (kept (n + p) (omega arith) (omega (arith, length-drop n after)))
 
 module _ (state : State) (tree-store : List ℕ) (found : Standing)
     (e : found ≡ count-standing state tree-store) where
@@ -101,7 +114,7 @@ module _ {tree : List ℕ} {i : ℕ} (small : Small tree i) (at-root : i ≡ roo
   root-count = counted ∙ ap (λ i. node-sets tree i .count) at-root
 
   -- what is written where there is room
-  pub list-written : (before after : List ℕ) → count ≤ length before → Written tree i count before after
+  pub list-written : (before after : List ℕ) → count ≤ length before → Written tree i before after
       → length after ≡ length before
       → (Counted count ≡ outcome-by (short-list (set-count tree) (length before)) (set-count tree))
       × Sets-left (Counted count) tree before after
@@ -109,7 +122,7 @@ module _ {tree : List ℕ} {i : ℕ} (small : Small tree i) (at-root : i ≡ roo
     rw (← root-count, le-leb count (length before) l),
     record {
       sets = enumerated;
-      rest = w .rest;
+      rest = kept-rest before after count (rw counted (w .rest)) n;
       room = l;
       length-kept = n;
     },
@@ -121,7 +134,7 @@ module _ {tree : List ℕ} {i : ℕ} (small : Small tree i) (at-root : i ≡ roo
       node-enumerated : Enumerates (fault-tree tree i) (listed count after)
       node-enumerated =
           enumerates-same (fault-tree tree i) (node-sets tree i) (listed count after) counted
-          (λ r h. w .each r (rw counted h))
+          (w .each)
           (family-enumerates (fault-tree tree i)
           (events-distinct (table-of tree) (rank tree) (table-ranked tree formed) (table-numbered tree formed)
           (table-linked-once tree formed) i (small .inside)))

@@ -115,7 +115,7 @@ module _ {tree : List ℕ} {i r : ℕ} {counts : List ℕ} (asked : Listable tre
     }
 
     -- a set of an input can be taken, by a number below its count
-    input-listable : (j : ℕ) → Links g j → (n m : ℕ) → n ≡ link tree j → m < node-sets tree n .count
+    pub input-listable : (j : ℕ) → Links g j → (n m : ℕ) → n ≡ link tree j → m < node-sets tree n .count
         → Listable tree n m counts
     input-listable j o n m t b = record {
       countable = record {
@@ -131,7 +131,7 @@ module _ {tree : List ℕ} {i r : ℕ} {counts : List ℕ} (asked : Listable tre
     }
 
     -- its rank is lower
-    input-falls : (j : ℕ) → Links g j → (n : ℕ) → n ≡ link tree j → rank tree n < rank tree i
+    pub input-falls : (j : ℕ) → Links g j → (n : ℕ) → n ≡ link tree j → rank tree n < rank tree i
     input-falls j o n t = rw t (input-lower tree w i l g (sym e ∙ q) j o)
 
     module _ (k : g .kind ≡ Any) where

@@ -3,11 +3,12 @@
 use Prim.Native.Nat.{ℕ, zero, suc, _+_, _-_, _*_, _≤_, _<_}
 use mathlib.Core.Path.{_≡_}
 use mathlib.Core.List.{List, [], _∷_}
-use lib.ListN.{length, getD, drop}
+use lib.Bits.{bitOr}
+use lib.ListN.{length, getD}
 use Rattle.theory.specs.FaultTree.{GateKind, all, any}
 use Rattle.theory.specs.NodeTable.{Owns}
 use Rattle.theory.specs.MinimalCutSets.{Family, Same-set}
-use Rattle.theory.specs.CutSetFamily.{alternatives, gate-family, family}
+use Rattle.theory.specs.CutSetFamily.{alternatives, gate-family, family, union}
 use Rattle.tree_file.specs.Format.{link, link-count, node-count}
 use Rattle.tree_file.specs.Tallies.{event-count}
 use Rattle.tree_file.specs.WellFormed.{WellFormed}
@@ -101,14 +102,52 @@ pub record Listable (tree : List ℕ) (i r : ℕ) (counts : List ℕ) : Type 0 w
   pub right : Right-beneath tree counts i
   pub below : r < node-sets tree i .count
 
--- Node i with the counts at and beneath it at their places, its own count, and a place for each of its sets.
-pub record Writable (tree : List ℕ) (i count : ℕ) (counts sets : List ℕ) : Type 0 where
+-- Node i with the counts at and beneath it at their places, and a place for each of its sets.
+pub record Writable (tree : List ℕ) (i : ℕ) (counts sets : List ℕ) : Type 0 where
   pub countable : Countable tree i counts
   pub right : Right-beneath tree counts i
-  pub count-is : count ≡ node-sets tree i .count
-  pub room : count ≤ length sets
+  pub room : node-sets tree i .count ≤ length sets
+
+-- Every place from n on is as it was.
+abbrev pub Kept-from : ℕ → List ℕ → List ℕ → Type 0
+Kept-from n before after = (p : ℕ) → n ≤ p → p < length before → getD after p 0 ≡ getD before p 0
 
 -- What writing leaves: place r holds set number r of node i, and every place from the count on is as it was.
-pub record Written (tree : List ℕ) (i count : ℕ) (before after : List ℕ) : Type 0 where
-  pub each : (r : ℕ) → r < count → Same-set (members (getD after r 0)) (node-sets tree i .set r)
-  pub rest : drop count after ≡ drop count before
+pub record Written (tree : List ℕ) (i : ℕ) (before after : List ℕ) : Type 0 where
+  pub each : (r : ℕ) → r < node-sets tree i .count → Same-set (members (getD after r 0)) (node-sets tree i .set r)
+  pub rest : Kept-from (node-sets tree i .count) before after
+
+-- What is written of a gate without inputs: the empty set for AND, none for OR.
+pub record None-written (k : GateKind) (before after : List ℕ) : Type 0 where
+  pub each : (r : ℕ) → r < neutral-count k → getD after r 0 ≡ 0
+  pub rest : Kept-from (neutral-count k) before after
+
+-- Node i as one input more behind those with so many sets, and a place for each set of the gate with it.
+pub record Joinable (tree : List ℕ) (k : GateKind) (i total : ℕ) (counts sets : List ℕ) : Type 0 where
+  pub countable : Countable tree i counts
+  pub right : Right-beneath tree counts i
+  pub room : joined-count k total (node-sets tree i .count) ≤ length sets
+
+-- A set joined to each of the first m: the unions stand from place `to` on.
+pub record Block (m to x : ℕ) (before after : List ℕ) : Type 0 where
+  pub each : (p : ℕ) → p < m → getD after (to + p) 0 ≡ bitOr (getD before p 0) x
+  pub below : (p : ℕ) → p < to → getD after p 0 ≡ getD before p 0
+  pub rest : Kept-from (to + m) before after
+
+-- Each set of node i joined to each of the first m.
+pub record Unions-written (tree : List ℕ) (i m : ℕ) (before after : List ℕ) : Type 0 where
+  pub each : (p q : ℕ) → p < m → q < node-sets tree i .count
+      → Same-set (members (getD after (p + m * q) 0)) (union (members (getD before p 0)) (node-sets tree i .set q))
+  pub rest : Kept-from (m * node-sets tree i .count) before after
+
+-- The sets of node i behind the first m, which are as they were.
+pub record Sets-behind (tree : List ℕ) (i m : ℕ) (before after : List ℕ) : Type 0 where
+  pub old : (p : ℕ) → p < m → getD after p 0 ≡ getD before p 0
+  pub new : (q : ℕ) → q < node-sets tree i .count
+      → Same-set (members (getD after (m + q) 0)) (node-sets tree i .set q)
+  pub rest : Kept-from (m + node-sets tree i .count) before after
+
+-- What is written with node i as one input more.
+abbrev pub Input-written : List ℕ → GateKind → ℕ → ℕ → List ℕ → List ℕ → Type 0
+Input-written tree all i total before after = Unions-written tree i total before after
+Input-written tree any i total before after = Sets-behind tree i total before after

@@ -2,7 +2,7 @@
 use crate::counting::count_beneath;
 use crate::judge::judge_events;
 use crate::outcome::Outcome;
-use crate::sets::set_at;
+use crate::writing::write_sets;
 use monitor::held::Standing;
 use monitor::state::State;
 use refusals::refusal::Refusal;
@@ -13,25 +13,12 @@ ghost use Rattle.monitor.specs.Standing.{held-tree};
 ghost use Rattle.monitor.specs.Question.{root as root-of};
 ghost use Rattle.cut_sets.specs.Judged.{outcome-by, reply-of, set-count, short-list};
 ghost use Rattle.cut_sets.specs.Listed.{Sets-left};
-ghost use Rattle.cut_sets.specs.Requirements.{Small, Writable, Written};
+ghost use Rattle.cut_sets.specs.Requirements.{Small};
 
 // What listing answers: the state, unchanged, and the outcome.
 pub struct Reply {
     pub state: State,
     pub outcome: Outcome,
-}
-
-// Writes the sets of node i, from the first place on.
-fn write_sets(tree: &[u8], i: usize, count: u64, counts: &[u64], sets: &mut [u64])
-    requires { ⌜ Writable (now tree) i count (now counts) (now sets) ⌝ }
-    ensures { λ _. ⌜ Written (now (tree .entry)) i count (now (sets .entry)) (now (sets .exit)) ⌝ }
-{
-    let mut r = 0u64;
-    while r < count {
-        let set = set_at(tree, i, r, counts);
-        sets[r as usize] = set;
-        r += 1;
-    }
 }
 
 // Counts the sets of the root, and writes them where the slice has a place for each: refusal 27.
@@ -45,7 +32,7 @@ fn listed(tree: &[u8], root: usize, sets: &mut [u64]) -> Outcome
     let mut counts = [0u64; 1024];
     let count = count_beneath(tree, root, &mut counts);
     if count <= sets.len() as u64 {
-        write_sets(tree, root, count, &counts, sets);
+        write_sets(tree, root, &counts, sets);
         return Outcome::Counted(count);
     }
     Outcome::Refused(Refusal {

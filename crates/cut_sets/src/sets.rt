@@ -13,7 +13,7 @@ ghost use Rattle.cut_sets.specs.Numbers.{members};
 ghost use Rattle.cut_sets.specs.Requirements.{Listable};
 
 // The number of the set of one event.
-fn event_alone(event: usize) -> u64
+pub fn event_alone(event: usize) -> u64
     requires { ⌜ event < 64 ⌝ }
     ensures { λ r. ⌜ r ≡ 2 ^ event ⌝ }
 {

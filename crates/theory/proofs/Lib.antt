@@ -46,5 +46,6 @@ pub mod MinimalFamilies
 pub mod CutSetsEnumerated
 pub mod CutSetCount
 pub mod NodeFamily
+pub mod FamilyGrowth
 -- The table of examples.
 pub mod ExamplesHold

@@ -23,7 +23,7 @@ pub record Lists (own : EventSet) (f : EventSet → Bool) (fam : Family) : Type 
   pub once : (q r : ℕ) → q < fam .count → r < fam .count → Same-set (fam .set q) (fam .set r) → q ≡ r
 
 -- a number below a product, taken apart, and put together again
-product-rest : (r a b : ℕ) → r < a * b → (r % a < a) × (r / a < b)
+pub product-rest : (r a b : ℕ) → r < a * b → (r % a < a) × (r / a < b)
 product-rest r zero b l = absurd (omega (arith, zero-mul b))
 product-rest r (suc a) b l = (mod-lt r (zero-lt-suc a), div-lt-iff-lt-mul (zero-lt-suc a) .1 (rw mul-comm at l))
 

@@ -28,7 +28,7 @@ returns c =
     let start = counted .before .before .before .before in
     list-written (start .pre .0) (start .pre .1) (counted .count-beneath .ensures .0) _ _
     (omega (arith, fits .if1 .taken))
-    (written .write-sets .ensures) (written .write-sets .kept .1 .1 .1 .1 .0)
+    (written .write-sets .ensures) (written .write-sets .kept .1 .1 .1 .0)
 
 returns-2 : tie.Need-returns-2
 returns-2 c =
