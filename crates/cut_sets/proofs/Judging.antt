@@ -21,8 +21,9 @@ use Rattle.monitor.specs.declared.held.Standing.{Standing}
 use Rattle.monitor.specs.declared.held.Standing.the-variants.{Ready, Refused}
 use Rattle.monitor.proofs.Standing.{ready-absent, standing-found}
 use Rattle.monitor.proofs.Ready.{unchanged}
-use Rattle.cut_sets.specs.Judged.{count-rules, count-standing, many-events, most-events}
-use Rattle.cut_sets.specs.Requirements.{Small}
+use Rattle.node_sets.specs.Numbers.{most-events}
+use Rattle.node_sets.specs.Requirements.{Small}
+use Rattle.cut_sets.specs.Judged.{count-rules, count-standing, many-events}
 
 module _ (state : State) (tree-store : List ℕ) where
   -- the tree file held

@@ -1,16 +1,3 @@
--- The laws behind the contracts: the set of a number; links, and a node's sets by those of its inputs; one turn of
--- counting, of the choice of an input, of a set and of a block of unions; a gate's sets input by input, one input more,
--- and a node's sets; the judging, and what the two calls answer.
-pub mod Bits
-pub mod Links
-pub mod Families
-pub mod GateCounts
-pub mod CountTurn
-pub mod ChoiceTurn
-pub mod SetTurn
-pub mod BlockTurn
-pub mod GateWriting
-pub mod InputWriting
-pub mod WriteTurn
+-- The laws behind the contracts: the judging, and what the two calls answer.
 pub mod Judging
 pub mod Outcomes

@@ -28,7 +28,7 @@ use Rattle.monitor.proofs.Standing.{ready-absent, standing-found}
 use Rattle.cut_sets.specs.Judged.{count-outcome, count-rules, count-standing, list-outcome, list-rules}
 use Rattle.cut_sets.specs.Judged.{outcome-by, reply-of, root-tree, set-count, short-list}
 use Rattle.cut_sets.specs.Listed.{Sets-left, listed}
-use Rattle.cut_sets.specs.Requirements.{Kept-from, Small, Written, node-sets}
+use Rattle.node_sets.specs.Requirements.{Kept-from, Small, Written, node-sets}
 use Rattle.cut_sets.specs.declared.outcome.Outcome.{Outcome}
 use Rattle.cut_sets.specs.declared.outcome.Outcome.the-variants.{Counted, Refused}
 use Rattle.cut_sets.proofs.Judging.{Ready-tree, ready-tree}

@@ -14,13 +14,10 @@ use Rattle.monitor.specs.Standing.{held-tree, standing, tree-rules}
 use Rattle.monitor.specs.Question.{root}
 use Rattle.monitor.specs.declared.state.State.{State}
 use Rattle.monitor.specs.declared.held.Standing.{Standing}
+use Rattle.node_sets.specs.Numbers.{most-events}
 use Rattle.cut_sets.specs.declared.outcome.Outcome.{Outcome}
 use Rattle.cut_sets.specs.declared.outcome.Outcome.the-variants.{Counted, Refused}
 use Rattle.cut_sets.specs.declared.list.Reply.{Reply}
-
--- The most basic events: a set's number has a bit for each.
-abbrev pub most-events : ℕ
-most-events = 64
 
 -- The tree of the root.
 abbrev pub root-tree : List ℕ → Tree

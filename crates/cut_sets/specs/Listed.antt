@@ -5,7 +5,7 @@ use mathlib.Core.Path.{_≡_}
 use mathlib.Core.List.{List}
 use lib.ListN.{length, getD, drop}
 use Rattle.theory.specs.MinimalCutSets.{Family, Enumerates}
-use Rattle.cut_sets.specs.Numbers.{members}
+use Rattle.node_sets.specs.Numbers.{members}
 use Rattle.cut_sets.specs.Judged.{root-tree}
 use Rattle.cut_sets.specs.declared.outcome.Outcome.{Outcome}
 use Rattle.cut_sets.specs.declared.outcome.Outcome.the-variants.{Counted, Refused}

@@ -1,14 +1,14 @@
 // Counting the minimal cut sets of the held tree.
-use crate::counting::count_beneath;
 use crate::judge::judge_events;
 use crate::outcome::Outcome;
 use monitor::held::Standing;
 use monitor::state::State;
+use node_sets::counting::count_beneath;
 ghost use mathlib.Core.Path.{_≡_};
 ghost use Rattle.theory.specs.CutSetFamily.{family};
 ghost use Rattle.tree_file.specs.NodeTable.{fault-tree};
 ghost use Rattle.cut_sets.specs.Judged.{count-outcome};
-ghost use Rattle.cut_sets.specs.Requirements.{Small};
+ghost use Rattle.node_sets.specs.Requirements.{Small};
 
 // The number of minimal cut sets of node i.
 fn count_at(tree: &[u8], i: usize) -> u64

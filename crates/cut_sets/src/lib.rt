@@ -1,12 +1,6 @@
-// The minimal cut sets of the held tree: how many there are, and the list of them in a lent slice. The main contracts
-// are those of `count::count_sets` and `list::list_sets`.
-mod blocks;
-mod choice;
+// The minimal cut sets of the held tree: how many there are, and the list of them in a lent slice. The main contracts are
+// those of `count::count_sets` and `list::list_sets`.
 pub mod count;
-mod counting;
-mod inputs;
 mod judge;
 pub mod list;
 pub mod outcome;
-mod sets;
-mod writing;

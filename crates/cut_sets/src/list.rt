@@ -1,10 +1,10 @@
 // Listing the minimal cut sets of the held tree, each once and no other set, as 64-bit numbers.
-use crate::counting::count_beneath;
 use crate::judge::judge_events;
 use crate::outcome::Outcome;
-use crate::writing::write_sets;
 use monitor::held::Standing;
 use monitor::state::State;
+use node_sets::counting::count_beneath;
+use node_sets::writing::write_sets;
 use refusals::refusal::Refusal;
 use refusals::rule::Rule;
 ghost use mathlib.Core.Path.{_≡_};
@@ -13,7 +13,7 @@ ghost use Rattle.monitor.specs.Standing.{held-tree};
 ghost use Rattle.monitor.specs.Question.{root as root-of};
 ghost use Rattle.cut_sets.specs.Judged.{outcome-by, reply-of, set-count, short-list};
 ghost use Rattle.cut_sets.specs.Listed.{Sets-left};
-ghost use Rattle.cut_sets.specs.Requirements.{Small};
+ghost use Rattle.node_sets.specs.Requirements.{Small};
 
 // What listing answers: the state, unchanged, and the outcome.
 pub struct Reply {
