@@ -114,7 +114,7 @@ fn print_sets() -> bool {
     println!("                  a set, ns");
     println!("    sets  nodes       capi  reference  capi/reference");
     for sets::Cost { nodes, sets, capi, reference, ratio } in sets::costs() {
-        println!("{sets:8} {nodes:6} {capi:10.1} {reference:10.2} {ratio:15.1}");
+        println!("{sets:8} {nodes:6} {capi:10.2} {reference:10.2} {ratio:15.2}");
     }
     true
 }

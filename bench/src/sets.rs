@@ -35,11 +35,18 @@ struct Bench {
     reference: Vec<f64>,
 }
 
-/// One of ten events for each of so many gates: a million sets, a tenth and a hundredth of them, and the tenth under
-/// 500 gates of one input.
+/// One of ten events for each of so many gates: a million sets, a tenth and a hundredth of them, the tenth under 500
+/// gates of one input, and the tenth behind a gate of two sets.
 fn trees() -> Vec<Vec<Node>> {
     let chained = under_gates(&mut Random::for_case(1, 0), and_of_ors(&[10; 5]), 500);
-    vec![and_of_ors(&[10; 6]), and_of_ors(&[10; 5]), and_of_ors(&[10; 4]), chained]
+    vec![and_of_ors(&[10; 6]), and_of_ors(&[10; 5]), and_of_ors(&[10; 4]), chained, behind_two(and_of_ors(&[10; 5]))]
+}
+
+/// An AND of an OR of two events and of the tree.
+fn behind_two(mut nodes: Vec<Node>) -> Vec<Node> {
+    let root = nodes.len() as u16 - 1;
+    nodes.extend([Node::Event, Node::Event, Node::Or(vec![root + 1, root + 2]), Node::And(vec![root + 3, root])]);
+    nodes
 }
 
 /// The cost of a list for each tree.

@@ -37,7 +37,8 @@ use Rattle.cut_sets.proofs.Judging.{Ready-tree, ready-tree}
 kept-rest : (before after : List ℕ) (n : ℕ) → Kept-from n before after → length after ≡ length before
     → drop n after ≡ drop n before
 kept-rest before after n kept same =
-    ext-getD 0 (drop n after) (drop n before) (rw (length-drop n after, length-drop n before) (ap (λ x. x - n) same)) each
+    ext-getD 0 (drop n after) (drop n before)
+    (rw (length-drop n after, length-drop n before) (ap (λ x. x - n) same)) each
   where
     each : (p : ℕ) → p < length (drop n after) → getD (drop n after) p 0 ≡ getD (drop n before) p 0
     each p l =

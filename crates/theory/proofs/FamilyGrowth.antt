@@ -1,16 +1,13 @@
--- A gate's family with one input more behind the others: for AND each set of the others with each set of the new input, for
--- OR the sets of the new input behind those of the others.
+-- A gate's family with one input more behind the others: for AND each set of the others with each set of the new
+-- input, for OR the sets of the new input behind those of the others.
 use Prim.Native.Nat.{ℕ, _+_, _-_, _*_, _/_, _%_, _≤_, _<_}
-use mathlib.Core.Path.{_≡_, refl, sym, ap, ap₂, _∙_}
-use mathlib.Core.Bool.{Bool, true, false, cond, _||_, or-assoc, or-false}
+use mathlib.Core.Path.{_≡_, sym, ap, _∙_}
+use mathlib.Core.Bool.{or-assoc, or-false}
 use mathlib.Core.List.{List, [], _∷_, _++_}
-use native.Mathlib.Nat.{add-mul-mod-self-left, add-mul-div-left, div-lt-iff-lt-mul, mul-assoc, mul-comm, mod-eq-of-lt, mod-lt}
-use native.Mathlib.Nat.{zero-mul, zero-lt-suc}
+use native.Mathlib.Nat.{add-mul-mod-self-left, add-mul-div-left, mul-assoc, mul-comm, mod-eq-of-lt}
 use native.Mathlib.Omega.{arith}
 use mathlib.Core.Logic.{_⊎_, inl, inr}
-use lib.Dec.{T, ltb}
 use borrow.Author.Tests.{lt-ltb, le-ltb}
-use Rattle.theory.specs.Unreliability.{EventSet, empty-set}
 use Rattle.theory.specs.MinimalCutSets.{Same-set, Family}
 use Rattle.theory.specs.CutSetFamily.{union, unions, alternatives}
 use Rattle.theory.proofs.Missing.{below-or-not}
@@ -20,7 +17,8 @@ module _ (g : Family) where
   -- AND: the counts are multiplied
   pub unions-more-count : (fs : List Family) → unions (fs ++ (g ∷ [])) .count ≡ unions fs .count * g .count
   unions-more-count [] = mul-comm (g .count) 1
-  unions-more-count (f ∷ fs) = ap (_*_ (f .count)) (unions-more-count fs) ∙ sym (mul-assoc (f .count) (unions fs .count) (g .count))
+  unions-more-count (f ∷ fs) =
+      ap (_*_ (f .count)) (unions-more-count fs) ∙ sym (mul-assoc (f .count) (unions fs .count) (g .count))
 
   -- AND: the new input's set changes slowest
   pub unions-more-set : (fs : List Family) (p q : ℕ) → p < unions fs .count → q < g .count

@@ -2,8 +2,8 @@
 -- events apart from each other.
 use Prim.Native.Nat.{ℕ}
 use mathlib.Core.Path.{_≡_, refl, _∙_}
-use mathlib.Core.Bool.{Bool, true, false, not, _&&_, _||_}
-use mathlib.Core.Logic.{_⊎_, inl, inr, ⊎-elim}
+use mathlib.Core.Bool.{Bool, true, false, not, _&&_}
+use mathlib.Core.Logic.{_⊎_, ⊎-elim}
 use lib.Dec.{T, T-not, not-T}
 use Rattle.theory.specs.Unreliability.{EventSet, empty-set}
 use Rattle.theory.specs.MinimalCutSets.{Within, Strictly-within, Same-set}

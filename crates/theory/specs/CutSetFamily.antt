@@ -1,6 +1,6 @@
 -- The minimal cut sets of a gate from those of its inputs, where no event stands twice: unions of one from each input
 -- for AND, those of all inputs for OR. That a tree's family is of its minimal cut sets is `family-enumerates`.
-use Prim.Native.Nat.{ℕ, _+_, _-_, _*_, _/_, _%_}
+use Prim.Native.Nat.{_+_, _-_, _*_, _/_, _%_}
 use mathlib.Core.Bool.{cond, _||_}
 use mathlib.Core.List.{List, [], _∷_}
 use lib.Dec.{ltb}

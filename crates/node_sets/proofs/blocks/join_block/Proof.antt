@@ -1,4 +1,4 @@
--- `node_sets::blocks::join_block` meets its contract: the invariant is that the first p places of the block are written.
+-- `node_sets::blocks::join_block` meets its contract: the invariant is that the block's first p places are written.
 use Prim.Native.Nat.{_-_}
 use borrow.Author.Needs.{needs}
 use Rattle.node_sets.proofs.BlockTurn.{Joining-block, block-end, block-next, block-start}
