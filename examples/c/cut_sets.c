@@ -9,6 +9,7 @@
  * Build at the repository's root, after rt staticlib capi:
  *     cc -Iinclude examples/c/cut_sets.c target/staticlib/libcapi.a -o cut_sets
  */
+#include "read_file.h"
 #include <nekbrod.h>
 #include <stdio.h>
 #include <stdlib.h>
@@ -18,40 +19,8 @@ enum { ANSWERED = 0, REFUSED = 1, UNUSABLE = 2, UNWRITTEN = 3 };
 /* More sets than these are counted and not listed. */
 #define MOST_SETS 1000000u
 
-/* The bytes of a file, whatever its length, and that length. */
-struct file {
-    uint8_t *bytes;
-    size_t len;
-};
-
 /* What the monitor is lent beside the slice for the sets. */
 static uint8_t tree_store[NEKBROD_LARGEST_TREE];
-
-static bool read_file(const char *name, struct file *file)
-{
-    FILE *stream = fopen(name, "rb");
-    size_t room = 0;
-    file->bytes = NULL;
-    file->len = 0;
-    if (stream == NULL) {
-        return false;
-    }
-    do {
-        if (file->len == room) {
-            uint8_t *grown = realloc(file->bytes, room + 32768);
-            if (grown == NULL) {
-                fclose(stream);
-                return false;
-            }
-            file->bytes = grown;
-            room += 32768;
-        }
-        file->len += fread(file->bytes + file->len, 1, room - file->len, stream);
-    } while (!feof(stream) && !ferror(stream));
-    bool whole = !ferror(stream);
-    fclose(stream);
-    return whole;
-}
 
 static int print_refusal(const char *what, nekbrod_refusal refusal)
 {

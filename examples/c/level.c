@@ -8,17 +8,12 @@
  * Build at the repository's root, after rt staticlib capi:
  *     cc -Iinclude examples/c/level.c target/staticlib/libcapi.a -o level
  */
+#include "read_file.h"
 #include <nekbrod.h>
 #include <stdio.h>
 #include <stdlib.h>
 
 enum { ANSWERED = 0, REFUSED = 1, UNUSABLE = 2, UNWRITTEN = 3 };
-
-/* The bytes of a file, whatever its length, and that length. */
-struct file {
-    uint8_t *bytes;
-    size_t len;
-};
 
 /* Everything that the monitor is lent: two stores and three work slices. */
 static uint8_t tree_store[NEKBROD_LARGEST_TREE];
@@ -26,32 +21,6 @@ static uint8_t sheet_store[NEKBROD_LARGEST_SHEET];
 static uint32_t lower[NEKBROD_MOST_NODES];
 static uint32_t upper[NEKBROD_MOST_NODES];
 static uint8_t marks[NEKBROD_MOST_NODES];
-
-static bool read_file(const char *name, struct file *file)
-{
-    FILE *stream = fopen(name, "rb");
-    size_t room = 0;
-    file->bytes = NULL;
-    file->len = 0;
-    if (stream == NULL) {
-        return false;
-    }
-    do {
-        if (file->len == room) {
-            uint8_t *grown = realloc(file->bytes, room + 32768);
-            if (grown == NULL) {
-                fclose(stream);
-                return false;
-            }
-            file->bytes = grown;
-            room += 32768;
-        }
-        file->len += fread(file->bytes + file->len, 1, room - file->len, stream);
-    } while (!feof(stream) && !ferror(stream));
-    bool whole = !ferror(stream);
-    fclose(stream);
-    return whole;
-}
 
 /* Decimal digits alone, for a number of 32 bits. */
 static bool read_number(const char *word, uint32_t *number)
