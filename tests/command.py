@@ -153,6 +153,7 @@ class Copy:
         self.home = os.path.join(work, name)
         self.tools = os.path.join(work, name + " tools")
         self.notes = os.path.join(work, name + " notes")
+        self.temporary = os.path.join(work, name + " temporary")
         self.command = os.path.join(self.home, "nekbrod")
         self.target = os.path.join(self.home, "target")
         self.program = os.path.join(self.target, "bin/levels")
@@ -168,6 +169,9 @@ class Copy:
             os.chmod(self.source(crate), 0o755)
         os.makedirs(self.tools)
         os.makedirs(self.notes)
+        # What a command that is killed leaves goes with the tests.
+        os.makedirs(self.temporary)
+        os.chmod(self.temporary, 0o1777)
         os.symlink(PYTHON, os.path.join(self.tools, "python3"))
         for tool in ("env", "sh", "cp", "mkdir", "rmdir", "rm", "cmp", "sleep", "cat"):
             os.symlink(shutil.which(tool), os.path.join(self.tools, tool))
@@ -236,7 +240,8 @@ exit {status}
         os.utime(source, (946684800, 946684800))
 
     def start(self, *words, **more):
-        return start([self.command, *words], env={"PATH": self.tools, "LC_ALL": "C"}, **more)
+        env = {"PATH": self.tools, "LC_ALL": "C", "TMPDIR": self.temporary}
+        return start([self.command, *words], env=env, **more)
 
     def run(self, *words, **more):
         return ended(self.start(*words, **more))
