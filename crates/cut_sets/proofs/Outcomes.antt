@@ -7,18 +7,15 @@ use lib.ListN.{length, getD, drop, length-drop}
 use lib.Seq.{ext-getD, getD-drop}
 use borrow.Author.Tests.{le-leb, lt-leb}
 use Rattle.theory.specs.MinimalCutSets.{Enumerates}
-use Rattle.theory.proofs.CutSetsEnumerated.{enumerates-same, family-enumerates}
-use Rattle.theory.proofs.DistinctEvents.{events-distinct}
+use Rattle.theory.proofs.CutSetsEnumerated.{enumerates-same}
 use Rattle.refusals.specs.FirstFault.{_or-else_, first-of}
 use Rattle.refusals.specs.declared.rule.Rule.the-variants.{ShortList}
 use Rattle.refusals.specs.declared.refusal.Refusal.{Refusal}
 use Rattle.refusals.specs.declared.refusal.FirstFault.{FirstFault}
 use Rattle.refusals.specs.declared.refusal.FirstFault.the-variants.{Found, Absent}
 use Rattle.refusals.proofs.FirstFault.{first-of-append, or-else-absent}
-use Rattle.tree_file.specs.WellFormed.{WellFormed}
-use Rattle.tree_file.specs.NodeTable.{fault-tree, rank, table-of}
+use Rattle.tree_file.specs.NodeTable.{fault-tree}
 use Rattle.tree_file.specs.declared.judgement.Counts.{Counts}
-use Rattle.tree_file.proofs.NodeTable.{table-linked-once, table-numbered, table-ranked}
 use Rattle.monitor.specs.Standing.{held-tree}
 use Rattle.monitor.specs.Question.{root}
 use Rattle.monitor.specs.declared.state.State.{State}
@@ -29,6 +26,7 @@ use Rattle.cut_sets.specs.Judged.{count-outcome, count-rules, count-stan
 use Rattle.cut_sets.specs.Judged.{outcome-by, reply-of, root-tree, set-count, short-list}
 use Rattle.cut_sets.specs.Listed.{Sets-left, listed}
 use Rattle.node_sets.specs.Requirements.{Kept-from, Small, Written, node-sets}
+use Rattle.node_sets.proofs.Enumerated.{node-sets-enumerated}
 use Rattle.cut_sets.specs.declared.outcome.Outcome.{Outcome}
 use Rattle.cut_sets.specs.declared.outcome.Outcome.the-variants.{Counted, Refused}
 use Rattle.cut_sets.proofs.Judging.{Ready-tree, ready-tree}
@@ -129,16 +127,11 @@ module _ {tree : List ℕ} {i : ℕ} (small : Small tree i) (at-root : i ≡ roo
     },
   )
     where
-      formed : WellFormed tree
-      formed = small .well-formed
-
       node-enumerated : Enumerates (fault-tree tree i) (listed count after)
       node-enumerated =
           enumerates-same (fault-tree tree i) (node-sets tree i) (listed count after) counted
           (w .each)
-          (family-enumerates (fault-tree tree i)
-          (events-distinct (table-of tree) (rank tree) (table-ranked tree formed) (table-numbered tree formed)
-          (table-linked-once tree formed) i (small .inside)))
+          (node-sets-enumerated tree (small .well-formed) i (small .inside))
 
       enumerated : Enumerates (root-tree tree) (listed count after)
       enumerated = subst (λ (n : ℕ). Enumerates (fault-tree tree n) (listed count after)) at-root node-enumerated

@@ -1,6 +1,6 @@
 -- The sets of a node by those of its inputs: what `node-family` of theory says of a well-formed tree file.
-use Prim.Native.Nat.{ℕ, zero, suc, _+_, _-_, _^_, _≤_, _<_}
-use mathlib.Core.Path.{_≡_, refl, ap, _∙_}
+use Prim.Native.Nat.{ℕ, suc, _+_, _-_, _^_, _≤_, _<_}
+use mathlib.Core.Path.{_≡_, ap, _∙_}
 use mathlib.Core.List.{List, [], _∷_}
 use native.Mathlib.Nat.{lt-of-lt-of-le}
 use native.Mathlib.Omega.{arith}
@@ -12,7 +12,7 @@ use Rattle.theory.specs.MinimalCutSets.{Family}
 use Rattle.theory.specs.CutSetFamily.{family, gate-family}
 use Rattle.theory.proofs.CutSetCount.{count-fits}
 use Rattle.theory.proofs.DistinctEvents.{events-few}
-use Rattle.theory.proofs.NodeFamily.{family-by-links, linked-families, node-family}
+use Rattle.theory.proofs.NodeFamily.{family-by-links, node-family}
 use Rattle.tree_file.specs.Format.{link, link-count, node-count}
 use Rattle.tree_file.specs.NodeTable.{fault-tree, kind-as, node-as, rank, read-node, table-of}
 use Rattle.tree_file.specs.WellFormed.{WellFormed}
@@ -22,11 +22,6 @@ use Rattle.tree_file.proofs.NodeTable.{table-events, table-linked-once, table-n
 use Rattle.tree_file.proofs.Nodes.{inputs-least, links-inside}
 use Rattle.node_sets.specs.Requirements.{Links, Small, gate-inputs, linked-sets, links-end, node-sets}
 use Rattle.node_sets.specs.Requirements.{sets-between}
-
--- the sets of linked nodes, as theory has them
-linked-as : (tree : List ℕ) (a m : ℕ) → linked-families (λ j. node-sets tree (link tree j)) a m ≡ linked-sets tree a m
-linked-as tree a zero = refl
-linked-as tree a (suc m) = ap (λ fs. node-sets tree (link tree a) ∷ fs) (linked-as tree (suc a) m)
 
 module _ (tree : List ℕ) (j end : ℕ) where
   -- the sets of the nodes that the links from j up to the end name: first that of link j
@@ -57,10 +52,8 @@ module _ (tree : List ℕ) (w : WellFormed tree) (i : ℕ) (l : i < node-count t
     pub gate-sets : node-sets tree i ≡ gate-family (kind-as (g .kind)) (gate-inputs tree g)
     gate-sets =
         let counted : suc (g .inputs - 1) ≡ links-end g - g .first = omega (arith, inputs-least tree w i l g q) in
-        let sets : ℕ → Family = λ n.
-        gate-family (kind-as (g .kind)) (linked-families (λ j. node-sets tree (link tree j)) (g .first) n) in
+        let sets : ℕ → Family = λ n. gate-family (kind-as (g .kind)) (linked-sets tree (g .first) n) in
         by-record ∙ rw q (ap sets counted)
-        ∙ ap (gate-family (kind-as (g .kind))) (linked-as tree (g .first) (links-end g - g .first))
 
     -- the links that it owns are those from its first on
     pub gate-owns : (j : ℕ) → Links g j → Owns (table-of tree) i j

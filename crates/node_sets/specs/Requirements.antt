@@ -1,13 +1,13 @@
 -- What the functions of this crate ask and leave: the counts of nodes at their places, and the sets that they number.
-use Prim.Native.Nat.{ℕ, zero, suc, _+_, _-_, _*_, _≤_, _<_}
+use Prim.Native.Nat.{ℕ, _+_, _-_, _*_, _≤_, _<_}
 use mathlib.Core.Path.{_≡_}
-use mathlib.Core.List.{List, [], _∷_}
+use mathlib.Core.List.{List, []}
 use lib.Bits.{bitOr}
 use lib.ListN.{length, getD}
 use Rattle.theory.specs.FaultTree.{GateKind, all, any}
 use Rattle.theory.specs.NodeTable.{Owns}
 use Rattle.theory.specs.MinimalCutSets.{Family, Same-set}
-use Rattle.theory.specs.CutSetFamily.{alternatives, gate-family, family, union}
+use Rattle.theory.specs.CutSetFamily.{alternatives, gate-family, family, linked-families, union}
 use Rattle.tree_file.specs.Format.{link, link-count, node-count}
 use Rattle.tree_file.specs.Tallies.{event-count}
 use Rattle.tree_file.specs.WellFormed.{WellFormed}
@@ -31,8 +31,7 @@ node-sets tree i = family (fault-tree tree i)
 
 -- The sets of each of the m nodes that links name, from link a on.
 abbrev pub linked-sets : List ℕ → ℕ → ℕ → List Family
-linked-sets tree a zero = []
-linked-sets tree a (suc m) = node-sets tree (link tree a) ∷ linked-sets tree (suc a) m
+linked-sets tree a m = linked-families (λ j. node-sets tree (link tree j)) a m
 
 -- The sets of each of the nodes that the links from a up to b name, b not included.
 abbrev pub sets-between : List ℕ → ℕ → ℕ → List Family

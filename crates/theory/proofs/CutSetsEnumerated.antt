@@ -1,9 +1,10 @@
 -- The family of a tree without repeated events has every minimal cut set of it once, and no other set.
-use Prim.Native.Nat.{ℕ, _<_}
+use Prim.Native.Nat.{ℕ, _≤_, _<_}
 use mathlib.Core.Path.{_≡_, refl, sym, ap, ap₂, _∙_}
 use mathlib.Core.Bool.{Bool, true, false, _||_, or-false}
 use mathlib.Core.List.{List, [], _∷_, _++_}
 use native.Mathlib.Omega.{arith}
+use native.Mathlib.Decide.{decLt}
 use lib.Dec.{T, T-not, not-T, eqb, eqb→eq, eqb-refl, lit<}
 use Rattle.theory.specs.FaultTree.{GateKind, all, any, Tree, Inputs, basic, gate, only, more, events, all-events}
 use Rattle.theory.specs.FaultTree.{contains}
@@ -15,6 +16,7 @@ use Rattle.theory.proofs.Missing.{eqb-comm, either-of-or, or-right, or-
 use Rattle.theory.proofs.Distinct.{Distinct, Apart, contains-append, contains-each-once, distinct-append}
 use Rattle.theory.proofs.MinimalSets.{Depends, Apart-sets, Minimal, minimal-same}
 use Rattle.theory.proofs.MinimalFamilies.{Lists, and-lists, or-lists}
+use Rattle.theory.proofs.Pigeonhole.{at-most}
 
 -- whether a list of events has an event
 abbrev among : List ℕ → EventSet
@@ -181,3 +183,33 @@ module _ (t : Tree) where
       go : (s : EventSet) → (r : ℕ) × (r < f .count) × Same-set (f .set r) s
           → (r : ℕ) × (r < g .count) × Same-set (g .set r) s
       go s (r, l, same) = (r, omega arith, λ e. sets r l e ∙ same e)
+
+  -- no enumeration has more sets than another
+  enumeration-at-most : (f g : Family) → Enumerates t f → Enumerates t g → f .count ≤ g .count
+  enumeration-at-most f g h k = at-most (g .count) (f .count) number record { below = below; apart = apart }
+    where
+      -- the number in g of set number r of f
+      at : (r : ℕ) → Dec (r < f .count) → ℕ
+      at r (yes l) = k .every (f .set r) (h .each r l) .0
+      at r (no l) = 0
+
+      number : ℕ → ℕ
+      number r = at r (decLt r (f .count))
+
+      found : (r : ℕ) (d : Dec (r < f .count)) → r < f .count
+          → (at r d < g .count) × Same-set (g .set (at r d)) (f .set r)
+      found r (yes l) m = (k .every (f .set r) (h .each r l) .1, k .every (f .set r) (h .each r l) .2)
+      found r (no l) m = absurd (l m)
+
+      below : (r : ℕ) → r < f .count → number r < g .count
+      below r l = found r (decLt r (f .count)) l .0
+
+      same : (r : ℕ) → r < f .count → Same-set (g .set (number r)) (f .set r)
+      same r l = found r (decLt r (f .count)) l .1
+
+      apart : (q r : ℕ) → q < f .count → r < f .count → number q ≡ number r → q ≡ r
+      apart q r l m e = h .once q r l m (λ x. sym (same q l x) ∙ ap (λ n. g .set n x) e ∙ same r m x)
+
+  -- so all have as many: the count is the number of minimal cut sets, however they are enumerated
+  pub enumerations-agree : (f g : Family) → Enumerates t f → Enumerates t g → f .count ≡ g .count
+  enumerations-agree f g h k = omega (arith, enumeration-at-most f g h k, enumeration-at-most g f k h)

@@ -40,9 +40,11 @@ pub mod OneRoot
 pub mod GateFold
 pub mod LinksBelow
 pub mod NodePromised
--- Minimal cut sets: those of a gate from those of its inputs (`family-enumerates`), and how many there are.
+-- Minimal cut sets: those of a gate from those of its inputs (`family-enumerates`), and how many there are
+-- (`enumerations-agree`).
 pub mod MinimalSets
 pub mod MinimalFamilies
+pub mod Pigeonhole
 pub mod CutSetsEnumerated
 pub mod CutSetCount
 pub mod NodeFamily

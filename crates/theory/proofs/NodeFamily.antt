@@ -1,17 +1,12 @@
 -- The family of a node is that of its gate's kind over the families of the nodes that its links name.
 use Prim.Native.Nat.{ℕ, zero, suc, _<_}
 use mathlib.Core.Path.{_≡_, refl, ap}
-use mathlib.Core.List.{List, [], _∷_}
+use mathlib.Core.List.{_∷_}
 use Rattle.theory.specs.FaultTree.{Tree, basic}
 use Rattle.theory.specs.NodeTable.{Node, event, joint, Table, inputs, build, tree-of, Ranked}
 use Rattle.theory.specs.MinimalCutSets.{Family}
-use Rattle.theory.specs.CutSetFamily.{gate-family, family, families}
+use Rattle.theory.specs.CutSetFamily.{gate-family, family, families, linked-families}
 use Rattle.theory.proofs.TreeOf.{tree-unfolds}
-
--- the families of m links, from link a on
-abbrev pub linked-families : (ℕ → Family) → ℕ → ℕ → List Family
-linked-families f a zero = []
-linked-families f a (suc m) = f a ∷ linked-families f (suc a) m
 
 -- a node's family by those of its links
 abbrev pub family-by-links : (ℕ → Family) → Node → Family

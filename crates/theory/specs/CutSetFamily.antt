@@ -1,6 +1,6 @@
 -- The minimal cut sets of a gate from those of its inputs, where no event stands twice: unions of one from each input
 -- for AND, those of all inputs for OR. That a tree's family is of its minimal cut sets is `family-enumerates`.
-use Prim.Native.Nat.{_+_, _-_, _*_, _/_, _%_}
+use Prim.Native.Nat.{ℕ, zero, suc, _+_, _-_, _*_, _/_, _%_}
 use mathlib.Core.Bool.{cond, _||_}
 use mathlib.Core.List.{List, [], _∷_}
 use lib.Dec.{ltb}
@@ -42,3 +42,8 @@ abbrev mutual
   pub families : Inputs → List Family
   families (only t) = family t ∷ []
   families (more t ts) = family t ∷ families ts
+
+-- the families of m links, from link a on, where f gives that of each
+abbrev pub linked-families : (ℕ → Family) → ℕ → ℕ → List Family
+linked-families f a zero = []
+linked-families f a (suc m) = f a ∷ linked-families f (suc a) m
