@@ -12,6 +12,10 @@ byte s at = getD s at 0
 unfoldable pub field16 : List ℕ → ℕ → ℕ
 field16 s at = byte s at + 256 * byte s (at + 1)
 
+-- The 24-bit field at an offset.
+unfoldable pub field24 : List ℕ → ℕ → ℕ
+field24 s at = byte s at + 256 * byte s (at + 1) + 65536 * byte s (at + 2)
+
 -- The 32-bit field at an offset.
 unfoldable pub field32 : List ℕ → ℕ → ℕ
 field32 s at = field16 s at + 65536 * field16 s (at + 2)

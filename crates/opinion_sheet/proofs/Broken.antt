@@ -23,19 +23,22 @@ use Rattle.opinion_sheet.specs.Format.{entry-at, kind, terms-at, term, u
 use Rattle.opinion_sheet.specs.HeaderRules.{within, header-rules, header-fault}
 use Rattle.opinion_sheet.specs.ScoreRules.{score-rule, score-fault, scores-fault}
 use Rattle.opinion_sheet.specs.TermRules.{term-rule, term-fault, spoke-among}
-use Rattle.opinion_sheet.specs.EntryRules.{numbers-of, numbers-rule, entry-fault, entries-fault}
+use Rattle.opinion_sheet.specs.EntryRules.{numbers-of, numbers-rule, fractions-of, last-byte, fractions-rule}
+use Rattle.opinion_sheet.specs.EntryRules.{entry-fault, entries-fault}
 use Rattle.opinion_sheet.specs.Judged.{fault-of, counts-of, judged}
-use Rattle.opinion_sheet.specs.WellFormed.{WellFormedHeader, WellFormedNumbers}
+use Rattle.opinion_sheet.specs.WellFormed.{WellFormedHeader, WellFormedNumbers, WellFormedFractions}
 use Rattle.opinion_sheet.specs.Broken.{Outside, WrongScore, WrongTerm, Breaks, too-short, wrong-letters}
 use Rattle.opinion_sheet.specs.Broken.{wrong-version, wrong-events, wrong-experts, wrong-length, unknown-kind}
-use Rattle.opinion_sheet.specs.Broken.{wrong-score, number-order, wrong-term, nobody-spoke}
+use Rattle.opinion_sheet.specs.Broken.{wrong-score, number-order, wrong-term, nobody-spoke, wrong-fractions}
 use Rattle.opinion_sheet.specs.declared.entry.Numbers.{Numbers}
+use Rattle.opinion_sheet.specs.declared.fractions.Fractions.{Fractions}
 use Rattle.opinion_sheet.specs.declared.judgement.Counts.{Counts}
 use Rattle.opinion_sheet.specs.declared.judgement.Judgement.the-variants.{Accepted, Refused}
 use Rattle.opinion_sheet.proofs.HeaderLaws.{header-well-formed}
 use Rattle.opinion_sheet.proofs.Accepted.{refused-found, accepted-absent}
 use Rattle.opinion_sheet.proofs.BrokenRules.{outside-says, outside-shows, score-says, score-shows, term-says}
 use Rattle.opinion_sheet.proofs.BrokenRules.{term-shows, silence-says, silence-shows, order-says, order-shows}
+use Rattle.opinion_sheet.proofs.BrokenRules.{fractions-says, fractions-shows}
 use Rattle.opinion_sheet.proofs.Finds.{Case, Among, finds-same, finds-unless, finds-either, finds-last}
 use Rattle.opinion_sheet.proofs.Finds.{finds-rule, finds-among}
 
@@ -156,13 +159,24 @@ module _ (file : List ℕ) where
 -- The entry of event e.
 module _ (file : List ℕ) (e : ℕ) where
   abbrev Kind : Refusal → Type 0
-  Kind = Case ((kind file e ≡ 0 → ⊥) × (kind file e ≡ 1 → ⊥)) rule.UnknownKind (entry-at file e)
+  Kind =
+      Case ((kind file e ≡ 0 → ⊥) × ((kind file e ≡ 1 → ⊥) × (kind file e ≡ 2 → ⊥))) rule.UnknownKind (entry-at file e)
 
   abbrev four : Numbers
   four = numbers-of file (entry-at file e)
 
   abbrev Falling : Refusal → Type 0
   Falling = Case ((kind file e ≡ 0) × (WellFormedNumbers (unit file) four → ⊥)) rule.NumberOrder (entry-at file e)
+
+  abbrev given : Fractions
+  given = fractions-of file (entry-at file e)
+
+  abbrev last : ℕ
+  last = last-byte file (entry-at file e)
+
+  abbrev Fraction : Refusal → Type 0
+  Fraction =
+      Case ((kind file e ≡ 2) × (WellFormedFractions given last → ⊥)) rule.WrongFractions (entry-at file e)
 
   abbrev Term : ℕ → Refusal → Type 0
   Term i = Case ((kind file e ≡ 1) × WrongTerm file (terms-at file e) i) rule.WrongTerm (terms-at file e + i)
@@ -176,7 +190,7 @@ module _ (file : List ℕ) (e : ℕ) where
   silence-fault = unless (spoke-among file (terms-at file e) 16) rule.NobodySpoke (entry-at file e)
 
   abbrev Entry : Refusal → Type 0
-  Entry q = Kind q ⊎ (Falling q ⊎ (Among Term 16 q ⊎ Silence q))
+  Entry q = Kind q ⊎ (Falling q ⊎ (Fraction q ⊎ (Among Term 16 q ⊎ Silence q)))
 
   -- An entry's refusals come after the header's, and lie inside the entry.
   pub record Inside (q : Refusal) : Type 0 where
@@ -192,10 +206,13 @@ module _ (file : List ℕ) (e : ℕ) where
       let at = placed _ (b .1) in
       record { late = staged _ (b .1); from-place = omega arith; to-place = omega arith }
   entry-inside q (inr (inr (inl b))) =
+      let at = placed _ (b .1) in
+      record { late = staged _ (b .1); from-place = omega arith; to-place = omega arith }
+  entry-inside q (inr (inr (inr (inl b)))) =
       let at = placed _ (b .1 .1 .1) in
       let inside = b .1 .0 in
       record { late = staged _ (b .1 .1 .1); from-place = omega arith; to-place = omega arith }
-  entry-inside q (inr (inr (inr b))) =
+  entry-inside q (inr (inr (inr (inr b)))) =
       let at = placed _ (b .1) in
       record { late = staged _ (b .1); from-place = omega arith; to-place = omega arith }
 
@@ -209,8 +226,28 @@ module _ (file : List ℕ) (e : ℕ) where
       from : (q : Refusal) → Entry q → Falling q
       from q (inl b) = absurd (b .0 .0 z)
       from q (inr (inl b)) = b
-      from q (inr (inr (inl b))) = absurd (omega (arith, b .1 .1 .0 .0))
-      from q (inr (inr (inr b))) = absurd (omega (arith, b .0 .0))
+      from q (inr (inr (inl b))) = absurd (omega (arith, b .0 .0))
+      from q (inr (inr (inr (inl b)))) = absurd (omega (arith, b .1 .1 .0 .0))
+      from q (inr (inr (inr (inr b)))) = absurd (omega (arith, b .0 .0))
+
+  finds-fractions : kind file e ≡ 2 → Finds Entry (entry-fault (unit file) file e)
+  finds-fractions z =
+      rw (
+        ne-eqb (kind file e) 0 (λ n. omega arith),
+        ne-eqb (kind file e) 1 (λ n. omega arith),
+        eq-eqb (kind file e) 2 z,
+      )
+      (finds-same (unless (fractions-rule given last) rule.WrongFractions (entry-at file e))
+      (λ q b. inr (inr (inl b))) from
+      (finds-unless (fractions-rule given last) rule.WrongFractions (entry-at file e) _
+      (λ n. (z, fractions-says given last n)) (λ b. fractions-shows given last (b .1))))
+    where
+      from : (q : Refusal) → Entry q → Fraction q
+      from q (inl b) = absurd (b .0 .1 .1 z)
+      from q (inr (inl b)) = absurd (omega (arith, b .0 .0))
+      from q (inr (inr (inl b))) = b
+      from q (inr (inr (inr (inl b)))) = absurd (omega (arith, b .1 .1 .0 .0))
+      from q (inr (inr (inr (inr b)))) = absurd (omega (arith, b .0 .0))
 
   module _ (m : expert-count file ≤ 16) (z : kind file e ≡ 1) where
     finds-terms : Finds (Among Term 16) (first-among (term-fault file (terms-at file e)) 16)
@@ -262,34 +299,39 @@ module _ (file : List ℕ) (e : ℕ) where
     finds-opinions =
         rw (ne-eqb (kind file e) 0 (λ n. omega arith), eq-eqb (kind file e) 1 z)
         (finds-same (first-among (term-fault file (terms-at file e)) 16 or-else (silence-fault or-else Absent))
-        (λ q b. inr (inr b)) from
+        (λ q b. inr (inr (inr b))) from
         (finds-either (first-among (term-fault file (terms-at file e)) 16) (silence-fault or-else Absent) finds-terms
         (λ none. finds-last Silence silence-fault (finds-silence none)) terms-silence))
       where
         from : (q : Refusal) → Entry q → Among Term 16 q ⊎ Silence q
-        from q (inl b) = absurd (b .0 .1 z)
+        from q (inl b) = absurd (b .0 .1 .0 z)
         from q (inr (inl b)) = absurd (omega (arith, b .0 .0))
-        from q (inr (inr b)) = b
+        from q (inr (inr (inl b))) = absurd (omega (arith, b .0 .0))
+        from q (inr (inr (inr b))) = b
 
-  finds-kind : (kind file e ≡ 0 → ⊥) → (kind file e ≡ 1 → ⊥) → Finds Entry (entry-fault (unit file) file e)
-  finds-kind n o =
-      rw (ne-eqb (kind file e) 0 n, ne-eqb (kind file e) 1 o)
+  finds-kind : (kind file e ≡ 0 → ⊥) → (kind file e ≡ 1 → ⊥) → (kind file e ≡ 2 → ⊥)
+      → Finds Entry (entry-fault (unit file) file e)
+  finds-kind n o p =
+      rw (ne-eqb (kind file e) 0 n, ne-eqb (kind file e) 1 o, ne-eqb (kind file e) 2 p)
       (finds-same (unless false rule.UnknownKind (entry-at file e)) (λ q b. inl b) from
-      (finds-unless false rule.UnknownKind (entry-at file e) _ (λ h. (n, o)) (λ b. refl)))
+      (finds-unless false rule.UnknownKind (entry-at file e) _ (λ h. (n, (o, p))) (λ b. refl)))
     where
       from : (q : Refusal) → Entry q → Kind q
       from q (inl b) = b
       from q (inr (inl b)) = absurd (n (b .0 .0))
-      from q (inr (inr (inl b))) = absurd (o (b .1 .1 .0 .0))
-      from q (inr (inr (inr b))) = absurd (o (b .0 .0))
+      from q (inr (inr (inl b))) = absurd (p (b .0 .0))
+      from q (inr (inr (inr (inl b)))) = absurd (o (b .1 .1 .0 .0))
+      from q (inr (inr (inr (inr b)))) = absurd (o (b .0 .0))
 
   finds-entry : expert-count file ≤ 16 → Finds Entry (entry-fault (unit file) file e)
-  finds-entry m = go (ℕ-discrete (kind file e) 0) (ℕ-discrete (kind file e) 1)
+  finds-entry m = go (ℕ-discrete (kind file e) 0) (ℕ-discrete (kind file e) 1) (ℕ-discrete (kind file e) 2)
     where
-      go : Dec (kind file e ≡ 0) → Dec (kind file e ≡ 1) → Finds Entry (entry-fault (unit file) file e)
-      go (yes z) d = finds-numbers z
-      go (no n) (yes z) = finds-opinions m z
-      go (no n) (no o) = finds-kind n o
+      go : Dec (kind file e ≡ 0) → Dec (kind file e ≡ 1) → Dec (kind file e ≡ 2)
+          → Finds Entry (entry-fault (unit file) file e)
+      go (yes z) d f = finds-numbers z
+      go (no n) (yes z) f = finds-opinions m z
+      go (no n) (no o) (yes z) = finds-fractions z
+      go (no n) (no o) (no p) = finds-kind n o p
 
 -- The entries, and the whole file.
 module _ (file : List ℕ) where
@@ -348,11 +390,14 @@ module _ (file : List ℕ) where
       subst (Breaks file) (sym (b .1)) (wrong-length (b .0 .0) (b .0 .1))
 
   entry-breaks : WellFormedHeader file → (e : ℕ) → e < event-count file → (q : Refusal) → Entry file e q → Breaks file q
-  entry-breaks w e l q (inl b) = subst (Breaks file) (sym (b .1)) (unknown-kind w e l (b .0 .0) (b .0 .1))
+  entry-breaks w e l q (inl b) =
+      subst (Breaks file) (sym (b .1)) (unknown-kind w e l (b .0 .0) (b .0 .1 .0) (b .0 .1 .1))
   entry-breaks w e l q (inr (inl b)) = subst (Breaks file) (sym (b .1)) (number-order w e l (b .0 .0) (b .0 .1))
   entry-breaks w e l q (inr (inr (inl b))) =
+      subst (Breaks file) (sym (b .1)) (wrong-fractions w e l (b .0 .0) (b .0 .1))
+  entry-breaks w e l q (inr (inr (inr (inl b)))) =
       subst (Breaks file) (sym (b .1 .1 .1)) (wrong-term w e l (b .1 .1 .0 .0) (b .0) (b .1 .0) (b .1 .1 .0 .1))
-  entry-breaks w e l q (inr (inr (inr b))) =
+  entry-breaks w e l q (inr (inr (inr (inr b)))) =
       subst (Breaks file) (sym (b .1)) (nobody-spoke w e l (b .0 .0) (b .0 .1))
 
   breaks : (q : Refusal) → Whole q → Breaks file q
@@ -369,11 +414,12 @@ module _ (file : List ℕ) where
   parted q (wrong-events s b) = inl (inr (inr (inr (inl ((s, b), refl)))))
   parted q (wrong-experts s b) = inl (inr (inr (inr (inr (inl ((s, b), refl))))))
   parted q (wrong-length s b) = inl (inr (inr (inr (inr (inr ((s, b), refl))))))
-  parted q (unknown-kind w e l n o) = inr (inr (e, (l, (w, inl ((n, o), refl)))))
+  parted q (unknown-kind w e l n o p) = inr (inr (e, (l, (w, inl ((n, (o, p)), refl)))))
   parted q (wrong-score s i l b) = inr (inl (i, (l, ((s, b), refl))))
   parted q (number-order w e l k b) = inr (inr (e, (l, (w, inr (inl ((k, b), refl))))))
-  parted q (wrong-term w e l k i j b) = inr (inr (e, (l, (w, inr (inr (inl (i, (j, ((k, b), refl)))))))))
-  parted q (nobody-spoke w e l k b) = inr (inr (e, (l, (w, inr (inr (inr ((k, b), refl)))))))
+  parted q (wrong-fractions w e l k b) = inr (inr (e, (l, (w, inr (inr (inl ((k, b), refl)))))))
+  parted q (wrong-term w e l k i j b) = inr (inr (e, (l, (w, inr (inr (inr (inl (i, (j, ((k, b), refl))))))))))
+  parted q (nobody-spoke w e l k b) = inr (inr (e, (l, (w, inr (inr (inr (inr ((k, b), refl))))))))
 
   -- Judging finds the first rule that the file breaks, in document 01's order, and nothing where it breaks none.
   pub first-broken : Finds (Breaks file) (fault-of file)

@@ -1,6 +1,6 @@
 -- The test of each rule fails exactly where the rule is broken.
 use Prim.Native.Nat.{ℕ, _≤_, _<_}
-use mathlib.Core.Path.{_≡_, refl}
+use mathlib.Core.Path.{_≡_, refl, sym, _∙_}
 use mathlib.Core.Bool.{Bool, true, false, _&&_, true≢false}
 use mathlib.Core.List.{List}
 use lib.Dec.{leb}
@@ -12,11 +12,12 @@ use Rattle.opinion_sheet.specs.Format.{expert-count, score, term}
 use Rattle.opinion_sheet.specs.HeaderRules.{within}
 use Rattle.opinion_sheet.specs.ScoreRules.{score-rule}
 use Rattle.opinion_sheet.specs.TermRules.{term-rule, spoke-among}
-use Rattle.opinion_sheet.specs.EntryRules.{numbers-rule}
-use Rattle.opinion_sheet.specs.WellFormed.{WellFormedNumbers}
+use Rattle.opinion_sheet.specs.EntryRules.{numbers-rule, fractions-rule}
+use Rattle.opinion_sheet.specs.WellFormed.{WellFormedNumbers, WellFormedFractions}
 use Rattle.opinion_sheet.specs.Broken.{Outside, below, above, WrongScore, WrongTerm, above-all}
 use Rattle.opinion_sheet.specs.declared.entry.Numbers.{Numbers}
-use Rattle.opinion_sheet.proofs.EntryLaws.{numbers-say, numbers-hold}
+use Rattle.opinion_sheet.specs.declared.fractions.Fractions.{Fractions}
+use Rattle.opinion_sheet.proofs.EntryLaws.{numbers-say, numbers-hold, fractions-say, fractions-hold}
 use Rattle.opinion_sheet.proofs.TermLaws.{speaker-among, spoke-found}
 
 -- A number that is not 0 is above it.
@@ -94,15 +95,30 @@ module _ (file : List ℕ) (terms n : ℕ) where
           absurd (omega (arith, found .1 .1, silent (found .0) (found .1 .0)))
       go false e = refl
 
+-- A test that holds exactly where a rule is kept fails exactly where it is not.
+module _ (test : Bool) (Kept : Type 0) (say : test ≡ true → Kept) (hold : Kept → test ≡ true) where
+  fails-says : test ≡ false → Kept → ⊥
+  fails-says h w = true≢false (sym (hold w) ∙ h)
+
+  fails-shows : (Kept → ⊥) → test ≡ false
+  fails-shows broken = go test refl
+    where
+      go : (b : Bool) → test ≡ b → b ≡ false
+      go true e = absurd (broken (say e))
+      go false e = refl
+
 module _ (U : ℕ) (x : Numbers) where
   pub order-says : numbers-rule U x ≡ false → WellFormedNumbers U x → ⊥
-  order-says h w =
-      let rising : true ≡ false = rw (numbers-hold U x w) at h in
-      true≢false rising
+  order-says = fails-says (numbers-rule U x) (WellFormedNumbers U x) (numbers-say U x) (numbers-hold U x)
 
   pub order-shows : (WellFormedNumbers U x → ⊥) → numbers-rule U x ≡ false
-  order-shows broken = go (numbers-rule U x) refl
-    where
-      go : (b : Bool) → numbers-rule U x ≡ b → b ≡ false
-      go true e = absurd (broken (numbers-say U x e))
-      go false e = refl
+  order-shows = fails-shows (numbers-rule U x) (WellFormedNumbers U x) (numbers-say U x) (numbers-hold U x)
+
+module _ (x : Fractions) (last : ℕ) where
+  pub fractions-says : fractions-rule x last ≡ false → WellFormedFractions x last → ⊥
+  fractions-says =
+      fails-says (fractions-rule x last) (WellFormedFractions x last) (fractions-say x last) (fractions-hold x last)
+
+  pub fractions-shows : (WellFormedFractions x last → ⊥) → fractions-rule x last ≡ false
+  fractions-shows =
+      fails-shows (fractions-rule x last) (WellFormedFractions x last) (fractions-say x last) (fractions-hold x last)

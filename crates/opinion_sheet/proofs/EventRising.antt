@@ -4,19 +4,49 @@ use mathlib.Core.Path.{_≡_, refl}
 use mathlib.Core.List.{List}
 use native.Mathlib.Nat.{mul-le-mul-right}
 use native.Mathlib.Omega.{arith}
-use Rattle.theory.specs.Trapezoid.{Rising}
+use Rattle.theory.specs.Trapezoid.{Trapezoid, Rising}
 use Rattle.theory.specs.Opinion.{mean, spoken}
 use Rattle.theory.proofs.MeanRising.{mean-rising}
 use Rattle.opinion_sheet.specs.Format.{event-count, expert-count, unit}
 use Rattle.opinion_sheet.specs.EntryRules.{entry-of}
 use Rattle.opinion_sheet.specs.WellFormed.{WellFormed, WellFormedScores, WellFormedOpinions, WellFormedEntry}
+use Rattle.opinion_sheet.specs.WellFormed.{WellFormedFractions}
 use Rattle.opinion_sheet.specs.Opinion.{opinions-among}
-use Rattle.opinion_sheet.specs.EventCut.{entry-trapezoid, event-trapezoid}
+use Rattle.opinion_sheet.specs.EventCut.{fractions-trapezoid, entry-trapezoid, event-trapezoid}
 use Rattle.opinion_sheet.specs.Requirements.{Cuttable}
+use Rattle.opinion_sheet.specs.declared.fractions.Fractions.{Fractions}
 use Rattle.opinion_sheet.specs.declared.entry.Entry.{Entry}
 use Rattle.opinion_sheet.specs.declared.entry.Entry.the-variants as entry
-use Rattle.opinion_sheet.proofs.EntryLaws.{entry-numbers, entry-opinions}
+use Rattle.opinion_sheet.proofs.EntryLaws.{entry-numbers, entry-opinions, entry-fractions}
 use Rattle.opinion_sheet.proofs.MeanOfOpinions.{spoken-most, spoken-least}
+
+-- Four fractions that rise to at most 1 can be cut, where their denominator leaves room.
+rising-cuttable : (U : ℕ) → 0 < U → (x : Trapezoid) → Rising x → x .den ≤ 1000000 → Cuttable U U x
+rising-cuttable U units x rising most =
+    record {
+      a-b = rising .a-b;
+      b-c = rising .b-c;
+      c-d = rising .c-d;
+      d-unit = omega (arith, mul-le-mul-right U (rising .d-den));
+      units-positive = units;
+      den-positive = rising .positive;
+      den-bounded = most;
+    }
+
+-- The fractions of a well-formed entry rise, and can be cut.
+fractions-rising : (x : Fractions) (last : ℕ) → WellFormedFractions x last → Rising (fractions-trapezoid x)
+fractions-rising x last w =
+    record {
+      a-b = w .rising .a-b;
+      b-c = w .rising .b-c;
+      c-d = w .rising .c-d;
+      d-den = w .rising .d-unit;
+      positive = w .den-least;
+    }
+
+pub fractions-cuttable : (U : ℕ) → 0 < U → (x : Fractions) (last : ℕ) → WellFormedFractions x last
+    → Cuttable U U (fractions-trapezoid x)
+fractions-cuttable U units x last w = rising-cuttable U units _ (fractions-rising x last w) (w .den-most)
 
 -- Somebody with a score spoke.
 pub opinions-spoken : (file : List ℕ) → WellFormedScores file → (terms : ℕ) → WellFormedOpinions file terms
@@ -39,17 +69,8 @@ module _ (file : List ℕ) (U : ℕ) (units : 0 < U) (scores : WellFormedScores 
   pub opinions-cuttable : expert-count file ≤ 16 → (terms : ℕ) → WellFormedOpinions file terms
       → Cuttable U U (mean (opinions-among file terms (expert-count file)))
   opinions-cuttable m terms w =
-      let rising = opinions-rising terms w in
       let most = spoken-most file terms 100 (expert-count file) (scores .score-most) in
-      record {
-        a-b = rising .a-b;
-        b-c = rising .b-c;
-        c-d = rising .c-d;
-        d-unit = omega (arith, mul-le-mul-right U (rising .d-den));
-        units-positive = units;
-        den-positive = rising .positive;
-        den-bounded = omega arith;
-      }
+      rising-cuttable U units _ (opinions-rising terms w) (omega arith)
 
   entry-rising : (e : ℕ) → WellFormedEntry U file e → Rising (event-trapezoid U file e)
   entry-rising e w = go (entry-of file e) refl
@@ -65,6 +86,7 @@ module _ (file : List ℕ) (U : ℕ) (units : 0 < U) (scores : WellFormedScores 
             positive = units;
           }
       go (entry.Opinions terms) h = opinions-rising terms (entry-opinions file U e w h .1)
+      go (entry.Fractions x) h = fractions-rising x _ (entry-fractions file U e w h)
 
 -- The four numbers of each event of a well-formed file rise.
 pub event-rising : (file : List ℕ) → WellFormed file → (e : ℕ) → e < event-count file

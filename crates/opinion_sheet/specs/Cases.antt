@@ -1,5 +1,6 @@
 -- Cases computed by the prover: the smallest accepted sheet; for each refusal the smallest sheet that causes it, with
--- number and place; the limits; two faults in one sheet; document 01's P5 and P9 to P12; and each of the seven terms.
+-- number and place; the limits; two faults in one sheet; document 01's P5 and P9 to P12; each of the seven terms; and
+-- failures over starts.
 use Prim.Native.Nat.{ℕ}
 use mathlib.Core.Path.{_≡_, refl}
 use mathlib.Core.List.{List, [], _∷_, _++_, map}
@@ -8,7 +9,7 @@ use lib.ListN.{replicate}
 use Rattle.theory.specs.Unit.{billion}
 use Rattle.theory.specs.Trapezoid.{cut}
 use Rattle.theory.specs.Rounding.{rounded, nothing-dropped, cut-end}
-use Rattle.fields.specs.Fields.{field16, field32}
+use Rattle.fields.specs.Fields.{field16, field24, field32}
 use Rattle.refusals.specs.Number.{number-of}
 use Rattle.refusals.specs.FirstFault.{first-among}
 use Rattle.rounding.specs.declared.end.Enclosure.{Enclosure}
@@ -37,7 +38,7 @@ abbrev zero-entry : List ℕ
 zero-entry = zeros 17
 
 abbrev unknown : List ℕ
-unknown = 2 ∷ zeros 16
+unknown = 3 ∷ zeros 16
 
 abbrev silence : List ℕ
 silence = 1 ∷ zeros 16
@@ -73,6 +74,36 @@ p11 = header 1 6 (15 ∷ 12 ∷ 10 ∷ 12 ∷ 5 ∷ 8 ∷ zeros 10) ++ (1 ∷ 6 
 abbrev one-term : ℕ → List ℕ
 one-term code = header 1 1 (3 ∷ zeros 15) ++ (1 ∷ code ∷ zeros 15)
 
+-- A fraction entry with these bytes for its denominator, and each of its numerators in one byte.
+abbrev over : List ℕ → ℕ → ℕ → ℕ → ℕ → List ℕ
+over den a b c d = (2 ∷ den) ++ (a ∷ 0 ∷ 0 ∷ b ∷ 0 ∷ 0 ∷ c ∷ 0 ∷ 0 ∷ d ∷ 0 ∷ 0 ∷ 0 ∷ [])
+
+-- A sheet for one event, without experts.
+abbrev alone : List ℕ → List ℕ
+alone entry = header 1 0 (zeros 16) ++ entry
+
+-- 3 failures in 1,250 starts, 226 + 256 × 4.
+abbrev pump : List ℕ
+pump = alone (over (226 ∷ 4 ∷ 0 ∷ []) 3 3 3 3)
+
+-- One third, and what lies around it: none, one or two of three.
+abbrev third : List ℕ
+third = alone (over (3 ∷ 0 ∷ 0 ∷ []) 1 1 1 1)
+
+abbrev around-third : List ℕ
+around-third = alone (over (3 ∷ 0 ∷ 0 ∷ []) 0 1 1 2)
+
+-- The bytes of 1,000,000, and the entry with the largest fractions.
+abbrev million-bytes : List ℕ
+million-bytes = 64 ∷ 66 ∷ 15 ∷ []
+
+abbrev all-failed : List ℕ
+all-failed = (2 ∷ million-bytes) ++ million-bytes ++ million-bytes ++ million-bytes ++ million-bytes ++ zeros 1
+
+-- One failure in 1,000,000 starts.
+abbrev rare : List ℕ
+rare = alone (over million-bytes 1 1 1 1)
+
 -- A sheet's answer: its tree number, its event and expert counts, or the number and place of its refusal.
 pub data Answer : Type 0 where
   accepted : ℕ → ℕ → ℕ → Answer
@@ -100,6 +131,10 @@ cases =
     ∷ record { file = one-term 7; expected = accepted 7 1 1 }
     -- sixteen experts with the highest score, all of whom spoke
     ∷ record { file = header 1 16 (replicate 16 100) ++ (1 ∷ replicate 16 7); expected = accepted 7 1 16 }
+    -- fractions: 3 of 1,250, all of 1,000,000, none or one of one
+    ∷ record { file = pump; expected = accepted 7 1 0 }
+    ∷ record { file = alone all-failed; expected = accepted 7 1 0 }
+    ∷ record { file = alone (over (1 ∷ 0 ∷ 0 ∷ []) 0 0 1 1); expected = accepted 7 1 0 }
     -- 1: no byte, and one byte too few for the header
     ∷ record { file = []; expected = refused 1 0 }
     ∷ record { file = zeros 25; expected = refused 1 25 }
@@ -131,6 +166,17 @@ cases =
     -- 12, in the first entry and in the second
     ∷ record { file = one-term 0; expected = refused 12 26 }
     ∷ record { file = header 2 0 (zeros 16) ++ zero-entry ++ silence; expected = refused 12 43 }
+    -- 28: a denominator of 0, of 1,000,001 and of 65,536 × 16; numerators that fall; a d above the denominator; a last
+    -- byte of 1; and in the second entry
+    ∷ record { file = alone (2 ∷ zeros 16); expected = refused 28 26 }
+    ∷ record { file = alone (over (65 ∷ 66 ∷ 15 ∷ []) 0 0 0 0); expected = refused 28 26 }
+    ∷ record { file = alone (over (0 ∷ 0 ∷ 16 ∷ []) 0 0 0 0); expected = refused 28 26 }
+    ∷ record { file = alone (over (9 ∷ 0 ∷ 0 ∷ []) 2 1 3 4); expected = refused 28 26 }
+    ∷ record { file = alone (over (9 ∷ 0 ∷ 0 ∷ []) 1 3 2 4); expected = refused 28 26 }
+    ∷ record { file = alone (over (9 ∷ 0 ∷ 0 ∷ []) 1 2 4 3); expected = refused 28 26 }
+    ∷ record { file = alone (over (3 ∷ 0 ∷ 0 ∷ []) 1 2 3 4); expected = refused 28 26 }
+    ∷ record { file = alone (2 ∷ 1 ∷ zeros 14 ++ 1 ∷ []); expected = refused 28 26 }
+    ∷ record { file = header 2 0 (zeros 16) ++ zero-entry ++ (2 ∷ zeros 16); expected = refused 28 43 }
     ∷ []
 
 -- Sheets with two faults, neighbours in document 01's order: the answer is the earlier.
@@ -147,13 +193,17 @@ two-faults =
     ∷ record { file = header 1 1 (zeros 16); expected = refused 5 26 }
     ∷ record { file = header 1 1 (zeros 15 ++ 1 ∷ []) ++ zero-entry; expected = refused 7 10 }
     ∷ record { file = header 1 0 (zeros 15 ++ 1 ∷ []) ++ unknown; expected = refused 7 25 }
-    -- the kind first: read as numbers this entry falls, read as opinions it has no such term
-    ∷ record { file = header 1 0 (zeros 16) ++ (2 ∷ 8 ∷ zeros 15); expected = refused 6 26 }
+    -- the kind first: read as numbers this entry falls, read as opinions it has no such term, read as fractions it does
+    -- not end in 0
+    ∷ record { file = header 1 0 (zeros 16) ++ (3 ∷ 8 ∷ zeros 14 ++ 1 ∷ []); expected = refused 6 26 }
     -- each kind of fault in an entry before any in the next
     ∷ record { file = header 2 0 (zeros 16) ++ unknown ++ falling; expected = refused 6 26 }
     ∷ record { file = header 2 0 (zeros 16) ++ falling ++ unknown; expected = refused 10 26 }
     ∷ record { file = header 2 0 (zeros 16) ++ (1 ∷ zeros 15 ++ 1 ∷ []) ++ silence; expected = refused 11 42 }
     ∷ record { file = header 2 0 (zeros 16) ++ silence ++ (1 ∷ 1 ∷ zeros 15); expected = refused 12 26 }
+    ∷ record { file = header 2 0 (zeros 16) ++ (2 ∷ zeros 16) ++ unknown; expected = refused 28 26 }
+    ∷ record { file = header 2 0 (zeros 16) ++ unknown ++ (2 ∷ zeros 16); expected = refused 6 26 }
+    ∷ record { file = header 2 0 (zeros 16) ++ (2 ∷ zeros 16) ++ falling; expected = refused 28 26 }
     -- a term before a later one; 11 where no listed expert spoke, and so before 12
     ∷ record { file = header 1 0 (zeros 16) ++ (1 ∷ 0 ∷ 8 ∷ 1 ∷ zeros 13); expected = refused 11 28 }
     ∷ record { file = header 1 1 (1 ∷ zeros 15) ++ (1 ∷ 0 ∷ 1 ∷ zeros 14); expected = refused 11 28 }
@@ -162,7 +212,7 @@ two-faults =
 -- Each sheet gets its answer.
 pub answers : map (λ (c : Case). answer (judged (c .file))) (cases ++ two-faults)
     ≡ map (λ (c : Case). c .expected) (cases ++ two-faults)
-unfolding fault-of first-among header-fault spoke-among field16 field32
+unfolding fault-of first-among header-fault spoke-among field16 field24 field32
 answers = refl
 
 -- An entry alone in a sheet, a level k of n, and the cut that document 01 gives.
@@ -209,8 +259,22 @@ term-cases =
     ∷ record { file = one-term 7; k = 2; n = 2; expected = between 960000000 true 960000000 true }
     ∷ []
 
+-- Failures over starts: 3 of 1,250 and 1 of 1,000,000 are whole units, 1 of 3 is not; at half the level the cut of 0, 1
+-- and 2 of 3 goes from a sixth to a half, divided once; all of 1,000,000 is 1.
+abbrev fraction-cases : List CutCase
+fraction-cases =
+    record { file = pump; k = 0; n = 1; expected = between 2400000 true 2400000 true }
+    ∷ record { file = pump; k = 7; n = 1000; expected = between 2400000 true 2400000 true }
+    ∷ record { file = rare; k = 1; n = 1; expected = between 1000 true 1000 true }
+    ∷ record { file = third; k = 0; n = 1; expected = between 333333333 false 333333334 false }
+    ∷ record { file = third; k = 3; n = 3; expected = between 333333333 false 333333334 false }
+    ∷ record { file = around-third; k = 0; n = 2; expected = between 0 true 666666667 false }
+    ∷ record { file = around-third; k = 1; n = 2; expected = between 166666666 false 500000000 true }
+    ∷ record { file = alone all-failed; k = 0; n = 1000; expected = between 1000000000 true 1000000000 true }
+    ∷ []
+
 -- Each cut is the one given.
-pub cuts : map (λ (c : CutCase). cut-at billion (c .file) 0 (c .k) (c .n)) (cut-cases ++ term-cases)
-    ≡ map (λ (c : CutCase). c .expected) (cut-cases ++ term-cases)
-unfolding opinions-among field16 field32 cut cut-end rounded nothing-dropped
+pub cuts : map (λ (c : CutCase). cut-at billion (c .file) 0 (c .k) (c .n)) (cut-cases ++ term-cases ++ fraction-cases)
+    ≡ map (λ (c : CutCase). c .expected) (cut-cases ++ term-cases ++ fraction-cases)
+unfolding opinions-among field16 field24 field32 cut cut-end rounded nothing-dropped
 cuts = refl

@@ -19,11 +19,17 @@ use Rattle.opinion_sheet.specs.declared.entry.Entry.the-variants as entr
 abbrev pub numbers-trapezoid : ℕ → Numbers → Trapezoid
 numbers-trapezoid U x = record { den = U; a = x .a; b = x .b; c = x .c; d = x .d }
 
+-- Four numerators over a denominator are fractions as they stand.
+abbrev pub fractions-trapezoid : Fractions → Trapezoid
+fractions-trapezoid x = record { den = x .den; a = x .a; b = x .b; c = x .c; d = x .d }
+
 -- The four numbers of an entry: as given, or the theory's mean of the opinions of the listed experts. Somebody spoke
--- (rule 12), with a score of at least 1 (rule 7), so that the mean's denominator is not 0.
+-- (rule 12), with a score of at least 1 (rule 7), so that the mean's denominator is not 0; a denominator that is given
+-- is not either (rule 28).
 abbrev pub entry-trapezoid : ℕ → List ℕ → Entry → Trapezoid
 entry-trapezoid U file (entry.Numbers x) = numbers-trapezoid U x
 entry-trapezoid U file (entry.Opinions terms) = mean (opinions-among file terms (expert-count file))
+entry-trapezoid U file (entry.Fractions x) = fractions-trapezoid x
 
 -- The four numbers of an event.
 abbrev pub event-trapezoid : ℕ → List ℕ → ℕ → Trapezoid
@@ -40,7 +46,3 @@ outward U x = enclosure (λ w. cut-end U w (end-of w x))
 -- The reported cut of an event at level k of n. n is at least 1 (rule 13), so that no denominator is 0.
 abbrev pub cut-at : ℕ → List ℕ → ℕ → ℕ → ℕ → Enclosure
 cut-at U file event k n = outward U (event-cut U file k n event)
-
--- The fractions that a cut is worked out from.
-abbrev pub fractions-trapezoid : Fractions → Trapezoid
-fractions-trapezoid x = record { den = x .den; a = x .a; b = x .b; c = x .c; d = x .d }

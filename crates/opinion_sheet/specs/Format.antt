@@ -51,12 +51,19 @@ max-score = 100
 abbrev pub max-term : ℕ
 max-term = 7
 
--- The kinds of an entry: four numbers, opinions.
+-- The highest denominator of fractions.
+abbrev pub max-denominator : ℕ
+max-denominator = 1_000_000
+
+-- The kinds of an entry: four numbers, opinions, fractions.
 abbrev pub numbers-kind : ℕ
 numbers-kind = 0
 
 abbrev pub opinions-kind : ℕ
 opinions-kind = 1
+
+abbrev pub fractions-kind : ℕ
+fractions-kind = 2
 
 -- The file begins with the letters `FTS`.
 abbrev pub has-letters : List ℕ → Bool

@@ -1,5 +1,5 @@
--- The rules of document 01's section "The opinion sheet", each by itself and in no order. `judged` accepts exactly the
--- well-formed files (`accepted-well-formed` and `well-formed-accepted` of proofs/Accepted).
+-- The rules of document 01's section "The opinion sheet" and of document 02's request 2, each by itself and in no order.
+-- `judged` accepts exactly the well-formed files (`accepted-well-formed` and `well-formed-accepted` of proofs/Accepted).
 use Prim.Native.Nat.{ℕ, _≤_, _<_}
 use mathlib.Core.Path.{_≡_}
 use mathlib.Core.Bool.{true}
@@ -7,9 +7,11 @@ use mathlib.Core.List.{List}
 use lib.ListN.{length}
 use Rattle.opinion_sheet.specs.Format.{has-letters, version, version-read, event-count, max-events, expert-count}
 use Rattle.opinion_sheet.specs.Format.{expert-places, required-length, score, max-score, entry-at, kind}
-use Rattle.opinion_sheet.specs.Format.{numbers-kind, opinions-kind, terms-at, term, max-term, unit}
-use Rattle.opinion_sheet.specs.EntryRules.{numbers-of}
+use Rattle.opinion_sheet.specs.Format.{numbers-kind, opinions-kind, fractions-kind, terms-at, term, max-term}
+use Rattle.opinion_sheet.specs.Format.{max-denominator, unit}
+use Rattle.opinion_sheet.specs.EntryRules.{numbers-of, fractions-of, last-byte, numerators}
 use Rattle.opinion_sheet.specs.declared.entry.Numbers.{Numbers}
+use Rattle.opinion_sheet.specs.declared.fractions.Fractions.{Fractions}
 
 -- The header, and the length that it asks for. Any tree number will do.
 pub record WellFormedHeader (file : List ℕ) : Type 0 where
@@ -39,6 +41,16 @@ pub record WellFormedNumbers (U : ℕ) (x : Numbers) : Type 0 where
   pub c-d : x .c ≤ x .d
   pub d-unit : x .d ≤ U
 
+-- Fractions and the byte after them.
+pub record WellFormedFractions (x : Fractions) (last : ℕ) : Type 0 where
+  -- the denominator is 1 to 1,000,000
+  pub den-least : 1 ≤ x .den
+  pub den-most : x .den ≤ max-denominator
+  -- the numerators rise to at most the denominator
+  pub rising : WellFormedNumbers (x .den) (numerators x)
+  -- the byte is 0
+  pub last-zero : last ≡ 0
+
 -- A listed expert who gave a term.
 pub record Speaker (file : List ℕ) (terms : ℕ) : Type 0 where
   pub expert : ℕ
@@ -56,11 +68,13 @@ pub record WellFormedOpinions (file : List ℕ) (terms : ℕ) : Type 0 where
 
 -- The entry of an event.
 pub record WellFormedEntry (U : ℕ) (file : List ℕ) (event : ℕ) : Type 0 where
-  -- it is of kind 0 or 1
-  pub known-kind : kind file event ≤ opinions-kind
-  -- kind 0 gives four numbers, kind 1 opinions
+  -- it is of kind 0, 1 or 2
+  pub known-kind : kind file event ≤ fractions-kind
+  -- kind 0 gives four numbers, kind 1 opinions, kind 2 fractions
   pub numbers : kind file event ≡ numbers-kind → WellFormedNumbers U (numbers-of file (entry-at file event))
   pub opinions : kind file event ≡ opinions-kind → WellFormedOpinions file (terms-at file event)
+  pub fractions : kind file event ≡ fractions-kind
+      → WellFormedFractions (fractions-of file (entry-at file event)) (last-byte file (entry-at file event))
 
 -- The sheet: its header, its scores, and the entry of each of its E events.
 pub record WellFormed (file : List ℕ) : Type 0 where

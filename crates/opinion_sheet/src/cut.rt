@@ -58,5 +58,6 @@ pub fn cut_at(file: &[u8], event: usize, k: u32, n: u32) -> Enclosure
             let mean = mean_of(file, terms);
             cut_of(mean, UNIT, k as u64, n as u64)
         }
+        Entry::Fractions(x) => cut_of(x, UNIT, k as u64, n as u64),
     }
 }

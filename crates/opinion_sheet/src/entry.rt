@@ -1,9 +1,13 @@
-// The entries: what each holds, and refusals 6 and 10 to 12.
+// The entries: what each holds, and refusals 6, 10 to 12 and 28.
 use crate::fault::broken;
 use crate::format::ENTRY_LENGTH;
+use crate::format::FRACTIONS_KIND;
 use crate::format::HEADER_LENGTH;
 use crate::format::NUMBERS_KIND;
 use crate::format::OPINIONS_KIND;
+use crate::fractions::Fractions;
+use crate::fractions::judge_fractions;
+use crate::fractions::read_fractions;
 use crate::opinions::judge_opinions;
 use fields::fields::byte_at;
 use fields::fields::field32_at;
@@ -27,10 +31,11 @@ pub struct Numbers {
     pub d: u32,
 }
 
-// An entry as read: its four numbers, or the offset of its terms.
+// An entry as read: its four numbers, the offset of its terms, or its fractions.
 pub enum Entry {
     Numbers(Numbers),
     Opinions(usize),
+    Fractions(Fractions),
 }
 
 // The four numbers of the entry at a place.
@@ -55,7 +60,10 @@ pub fn read_entry(file: &[u8], event: usize) -> Entry
     if kind == NUMBERS_KIND {
         return Entry::Numbers(read_numbers(file, at));
     }
-    Entry::Opinions(at + 1)
+    if kind == OPINIONS_KIND {
+        return Entry::Opinions(at + 1);
+    }
+    Entry::Fractions(read_fractions(file, at))
 }
 
 // The fault of the number entry at a place.
@@ -82,6 +90,9 @@ pub fn judge_entry(file: &[u8], event: usize) -> FirstFault
     }
     if kind == OPINIONS_KIND {
         return judge_opinions(file, at);
+    }
+    if kind == FRACTIONS_KIND {
+        return judge_fractions(file, at);
     }
     broken(Rule::UnknownKind, at)
 }

@@ -37,10 +37,15 @@ pub const MAX_SCORE: usize = 100;
 
 pub const MAX_TERM: usize = 7;
 
-// The kinds of an entry: four numbers, opinions.
+// The highest denominator of fractions.
+pub const MAX_DENOMINATOR: u64 = 1_000_000;
+
+// The kinds of an entry: four numbers, opinions, fractions.
 pub const NUMBERS_KIND: usize = 0;
 
 pub const OPINIONS_KIND: usize = 1;
+
+pub const FRACTIONS_KIND: usize = 2;
 
 // Whether the file begins with FTS.
 pub fn has_letters(file: &[u8]) -> bool

@@ -27,3 +27,4 @@ numbered rule.OtherTree e = omega arith
 numbered rule.ShortSlice e = omega arith
 numbered rule.ManyEvents e = omega arith
 numbered rule.ShortList e = omega arith
+numbered rule.WrongFractions e = omega arith

@@ -53,7 +53,7 @@ tree-rises =
     then last
 
 -- A sheet of two entries: the header, E before the experts; the scores from 10 to 25; the entries at 26 and 43, each
--- with its kind first, then 10, or 11 at its terms and then 12; the store.
+-- with its kind first, then 10, or 28, or 11 at its terms and then 12; the store.
 abbrev pub sheet-turns : List Refusal
 sheet-turns =
     refusal rule.TooShort 25
@@ -66,10 +66,12 @@ sheet-turns =
     ∷ refusal rule.WrongField 25
     ∷ refusal rule.UnknownKind 26
     ∷ refusal rule.NumberOrder 26
+    ∷ refusal rule.WrongFractions 26
     ∷ refusal rule.WrongTerm 27
     ∷ refusal rule.WrongTerm 42
     ∷ refusal rule.NobodySpoke 26
     ∷ refusal rule.UnknownKind 43
+    ∷ refusal rule.WrongFractions 43
     ∷ refusal rule.NobodySpoke 43
     ∷ refusal rule.ShortStore 0
     ∷ []
@@ -85,10 +87,12 @@ sheet-rises =
     then by-place refl (lit< tt)
     then by-place refl (lit< tt)
     then by-number refl refl (lit< tt)
+    then by-number refl refl (lit< tt)
     then by-place refl (lit< tt)
     then by-place refl (lit< tt)
     then by-number refl refl (lit< tt)
     then by-place refl (lit< tt)
+    then by-number refl refl (lit< tt)
     then by-place refl (lit< tt)
     then by-stage (lit< tt)
     then last

@@ -17,10 +17,14 @@ use Rattle.refusals.specs.declared.refusal.FirstFault.the-variants.{Foun
 abbrev pub refusal : Rule → ℕ → Refusal
 refusal rule place = record { rule = rule; place = place }
 
--- The stages rise with the numbers. What stands behind a header's counts, 6 to 12, is one stage: it is read as it
+-- The number at whose turn a number comes: its own, but that 28 comes where 10 would (02, request 2).
+abbrev pub turn-of : ℕ → ℕ
+turn-of n = cond (eqb n 28) 10 n
+
+-- The stages rise with the turns. What stands behind a header's counts, 6 to 12, is one stage: it is read as it
 -- stands.
 abbrev pub stage : Refusal → ℕ
-stage r = let n = number-of (r .rule) in cond (leb 6 n && leb n 12) 6 n
+stage r = let n = turn-of (number-of (r .rule)) in cond (leb 6 n && leb n 12) 6 n
 
 -- The place that counts in the order: E stands before the experts, a score before the entries, a record before the
 -- sum and the links, a tree (0) before a sheet (1). That nobody spoke, 12, is seen at the last of the entry's sixteen

@@ -46,6 +46,8 @@ pub enum Rule {
     ManyEvents,
     // The lent slice is shorter than the number of minimal cut sets.
     ShortList,
+    // Four fractions that fall or exceed 1, a denominator out of range, or a last byte that is not 0.
+    WrongFractions,
 }
 
 // The rule's number.
@@ -74,5 +76,6 @@ pub fn rule_number(rule: Rule) -> usize
         Rule::ShortSlice => 25,
         Rule::ManyEvents => 26,
         Rule::ShortList => 27,
+        Rule::WrongFractions => 28,
     }
 }

@@ -14,8 +14,8 @@ use Rattle.opinion_sheet.specs.EventCut.{entry-trapezoid, outward}
 use Rattle.opinion_sheet.specs.Requirements.{Cuttable}
 use Rattle.opinion_sheet.specs.declared.entry.Entry.{Entry}
 use Rattle.opinion_sheet.specs.declared.entry.Entry.the-variants as entry
-use Rattle.opinion_sheet.proofs.EntryLaws.{entry-numbers, entry-opinions}
-use Rattle.opinion_sheet.proofs.EventRising.{opinions-spoken, opinions-cuttable}
+use Rattle.opinion_sheet.proofs.EntryLaws.{entry-numbers, entry-opinions, entry-fractions}
+use Rattle.opinion_sheet.proofs.EventRising.{opinions-spoken, opinions-cuttable, fractions-cuttable}
 use Rattle.opinion_sheet.proofs.cut.cut_at.Statement.{statement}
 use Rattle.opinion_sheet.proofs.cut.cut_at.Tie as tie
 
@@ -31,6 +31,11 @@ opinions-read : (c : tie.After-known-told2)
     → let start = c .before .before .before .before .before in
     entry-of (now (start .args .file)) (start .args .event) ≡ entry.Opinions (c .before .entry2 .given .0 .0)
 opinions-read c = sym (c .before .before .before .read-entry .ensures) ∙ c .before .entry2 .given .1
+
+fractions-read : (c : tie.After-known-told3)
+    → let start = c .before .before .before .before .before in
+    entry-of (now (start .args .file)) (start .args .event) ≡ entry.Fractions (c .before .entry3 .given .0 .0)
+fractions-read c = sym (c .before .before .before .read-entry .ensures) ∙ c .before .entry3 .given .1
 
 -- The opinions are well-formed, and the terms follow the entry's kind byte.
 opinions : (c : tie.After-known-told2)
@@ -84,6 +89,15 @@ cut-of-requires c κs =
       start .pre .2,
     )
 
+enum-known-entry-3 : tie.Need-enum-known-entry-3
+enum-known-entry-3 c = search needs
+
+cut-of-requires-2 : tie.Need-cut-of-requires-2
+cut-of-requires-2 c κs =
+    let start = c .before .before .before .before .before in
+    let fractions = entry-fractions _ billion (start .args .event) (event-entry start) (fractions-read c) in
+    (fractions-cuttable billion (lit< tt) _ _ fractions, start .pre .2)
+
 returns : tie.Need-returns
 returns c =
     let read = c .before in
@@ -98,6 +112,12 @@ returns-2 c =
     c .cut-of .ensures ∙ ap (cut-asked start) (c .before .mean-of .ensures)
     ∙ ap (cut-read start) (sym (opinions-read read))
 
+returns-3 : tie.Need-returns-3
+returns-3 c =
+    let read = c .before in
+    let start = read .before .before .before .before .before in
+    c .cut-of2 .ensures ∙ ap (cut-read start) (sym (fractions-read read))
+
 pub cut-at-spec : {M : Type 1} → statement M
 cut-at-spec =
     tie.close
@@ -108,5 +128,8 @@ cut-at-spec =
     enum-known-entry-2
     mean-of-requires
     cut-of-requires
+    enum-known-entry-3
+    cut-of-requires-2
     returns
-    returns-2)
+    returns-2
+    returns-3)

@@ -34,16 +34,37 @@ returns-2 c =
     rw (ne-eqb _ _ (λ e. after-if1 .if1 .left (kind ∙ e)), eq-eqb _ _ (sym kind ∙ c .before .if2 .taken))
     (c .judge-opinions .ensures)
 
-broken-requires : tie.Need-broken-requires
-broken-requires c κs = search needs
+judge-fractions-requires : tie.Need-judge-fractions-requires
+judge-fractions-requires c κs = search needs
 
 returns-3 : tie.Need-returns-3
 returns-3 c =
-    let after-if1 = c .before .before in
-    let after-byte-at = c .before .before .before in
+    let after-if2 = c .before .before in
+    let after-if1 = c .before .before .before in
+    let after-byte-at = c .before .before .before .before in
+    let kind = after-byte-at .byte-at .ensures .0 in
+    rw (
+      ne-eqb _ _ (λ e. after-if1 .if1 .left (kind ∙ e)),
+      ne-eqb _ _ (λ e. after-if2 .if2 .left (kind ∙ e)),
+      eq-eqb _ _ (sym kind ∙ c .before .if3 .taken),
+    )
+    (c .judge-fractions .ensures)
+
+broken-requires : tie.Need-broken-requires
+broken-requires c κs = search needs
+
+returns-4 : tie.Need-returns-4
+returns-4 c =
+    let after-if2 = c .before .before in
+    let after-if1 = c .before .before .before in
+    let after-byte-at = c .before .before .before .before in
     let kind = after-byte-at .byte-at .ensures .0 in
     c .broken .ensures
-    ∙ rw (ne-eqb _ _ (λ e. after-if1 .if1 .left (kind ∙ e)), ne-eqb _ _ (λ e. c .before .if2 .left (kind ∙ e)))
+    ∙ rw (
+      ne-eqb _ _ (λ e. after-if1 .if1 .left (kind ∙ e)),
+      ne-eqb _ _ (λ e. after-if2 .if2 .left (kind ∙ e)),
+      ne-eqb _ _ (λ e. c .before .if3 .left (kind ∙ e)),
+    )
 
 pub judge-entry-spec : {M : Type 1} → statement M
 judge-entry-spec =
@@ -56,5 +77,7 @@ judge-entry-spec =
     returns
     judge-opinions-requires
     returns-2
+    judge-fractions-requires
+    returns-3
     broken-requires
-    returns-3)
+    returns-4)

@@ -1,4 +1,4 @@
--- `opinion_sheet::entry::read_entry` meets its contract: by whether the kind byte is 0.
+-- `opinion_sheet::entry::read_entry` meets its contract: by whether the kind byte is 0, and whether it is 1.
 use mathlib.Core.Path.{ap, sym, _∙_}
 use borrow.Author.Tests.{eq-eqb, ne-eqb}
 use borrow.Author.Needs.{needs}
@@ -24,13 +24,35 @@ returns c =
     rw (eq-eqb _ _ (sym (after-byte-at .byte-at .ensures .0) ∙ c .before .if1 .taken))
     (ap entry.Numbers (c .read-numbers .ensures))
 
-add-t5 : tie.Need-add-t5
-add-t5 c = search needs
+add-t8 : tie.Need-add-t8
+add-t8 c = search needs
 
 returns-2 : tie.Need-returns-2
-returns-2 c = rw (ne-eqb _ _ (λ e. c .if1 .left (c .before .byte-at .ensures .0 ∙ e)))
+returns-2 c =
+    let after-if1 = c .before in
+    let kind = c .before .before .byte-at .ensures .0 in
+    rw (ne-eqb _ _ (λ e. after-if1 .if1 .left (kind ∙ e)), eq-eqb _ _ (sym kind ∙ c .if2 .taken))
+
+read-fractions-requires : tie.Need-read-fractions-requires
+read-fractions-requires c κs = search needs
+
+returns-3 : tie.Need-returns-3
+returns-3 c =
+    let after-if1 = c .before .before in
+    let kind = c .before .before .before .byte-at .ensures .0 in
+    rw (ne-eqb _ _ (λ e. after-if1 .if1 .left (kind ∙ e)), ne-eqb _ _ (λ e. c .before .if2 .left (kind ∙ e)))
+    (ap entry.Fractions (c .read-fractions .ensures))
 
 pub read-entry-spec : {M : Type 1} → statement M
 read-entry-spec =
     tie.close
-    (tie.spec mul-at add-at byte-at-requires read-numbers-requires returns add-t5 returns-2)
+    (tie.spec
+    mul-at
+    add-at
+    byte-at-requires
+    read-numbers-requires
+    returns
+    add-t8
+    returns-2
+    read-fractions-requires
+    returns-3)
