@@ -7,7 +7,7 @@ import re
 LONGEST_TREE, LONGEST_SHEET = 7175, 17434
 TREE_HEADER, SHEET_HEADER = 9, 26
 RECORD, ENTRY, EXPERTS = 5, 17, 16
-MOST_NODES, MOST_EVENTS, UNIT = 1024, 64, 1000000000
+MOST_NODES, MOST_EVENTS, UNIT, MOST_DENOMINATOR = 1024, 64, 1000000000, 1000000
 GATES = {1: "AND", 2: "OR"}
 
 Row = collections.namedtuple("Row", "rule place aboard")
@@ -221,7 +221,8 @@ class Sheet(Bytes):
         event, within = divmod(place - SHEET_HEADER, ENTRY)
         if number == 6 and within == 0:
             kind = self.one(place)
-            return f"the entry of event {event} has the kind {kind}; allowed: 0 (four numbers), 1 (opinions)", ""
+            return (f"the entry of event {event} has the kind {kind}; "
+                    f"allowed: 0 (four numbers), 1 (opinions), 2 (fractions)"), ""
         if number == 10 and within == 0:
             four = ", ".join(str(self.number(place + 1 + 4 * i, 4)) for i in range(4))
             return (f"the entry of event {event} has the four numbers {four}; "
@@ -231,7 +232,20 @@ class Sheet(Bytes):
         if number == 12 and within == 0:
             return (f"the entry of event {event} has no term but 0 (experts: {self.experts()}); "
                     f"allowed: a term from 1 to 7 by one expert at the least"), ""
+        if number == 28 and within == 0:
+            return self.fractions_fault(event, place), ""
         return "", ""
+
+    def fractions_fault(self, event, place):
+        denominator, *numerators = (self.number(place + 1 + 3 * i, 3) for i in range(5))
+        last = self.one(place + 16)
+        found = f"the numerators {', '.join(map(str, numerators))} over the denominator {denominator}"
+        allowed = (f"each numerator at least the one before it, and at most the denominator, "
+                   f"which is 1 to {MOST_DENOMINATOR}")
+        if last != 0:
+            found += f" and the last byte {last}"
+            allowed += ", and the last byte 0"
+        return f"the entry of event {event} has {found}; allowed: {allowed}"
 
     def expert_value(self, what, i, value, range_of_listed):
         experts = self.experts()

@@ -27,7 +27,7 @@ extern "C" {
 #endif
 
 /* The version of this header: major, minor and patch, a byte each. nekbrod_version answers that of the library. */
-#define NEKBROD_VERSION 0x000200u
+#define NEKBROD_VERSION 0x000300u
 
 /* Ends are counted in units: one unit is a billionth, so this is the probability 1. */
 #define NEKBROD_ONE 1000000000u
@@ -54,20 +54,22 @@ typedef struct nekbrod_state {
  * that comes with it. An offset is in bytes from 0 in the file handed in.
  */
 /* Of a file handed in. */
-#define NEKBROD_TOO_SHORT 1u     /* the file is shorter than its header (tree 9, sheet 26): the file's length */
-#define NEKBROD_WRONG_LETTERS 2u /* wrong letters at the front: 0 */
-#define NEKBROD_WRONG_VERSION 3u /* the file's version is not 1: 3 */
-#define NEKBROD_WRONG_COUNT 4u   /* the number of nodes is out of range: 7; of events: 7; of experts: 9 */
-#define NEKBROD_WRONG_LENGTH 5u  /* the length is not as the counts require: the file's length */
-#define NEKBROD_UNKNOWN_KIND 6u  /* unknown kind of record or entry: offset of its byte */
-#define NEKBROD_WRONG_FIELD 7u   /* a wrong field of a record: offset of the record; the inputs of all gates are too
-                                    few: offset of the first link; a score out of rule: offset of the score */
-#define NEKBROD_NOT_BELOW 8u     /* a link that is not below its gate: offset of the link */
-#define NEKBROD_LINKED_BEFORE 9u /* a node that is linked a second time: offset of the second link */
-#define NEKBROD_NUMBER_ORDER 10u /* four numbers out of order or above 1: offset of the entry */
-#define NEKBROD_WRONG_TERM 11u   /* a term above 7, or not 0 after the last expert: offset of the term */
-#define NEKBROD_NOBODY_SPOKE 12u /* an opinion entry in which nobody spoke: offset of the entry */
-#define NEKBROD_SHORT_STORE 20u  /* the store is shorter than the accepted file: 0 */
+#define NEKBROD_TOO_SHORT 1u        /* the file is shorter than its header (tree 9, sheet 26): the file's length */
+#define NEKBROD_WRONG_LETTERS 2u    /* wrong letters at the front: 0 */
+#define NEKBROD_WRONG_VERSION 3u    /* the file's version is not 1: 3 */
+#define NEKBROD_WRONG_COUNT 4u      /* the number of nodes is out of range: 7; of events: 7; of experts: 9 */
+#define NEKBROD_WRONG_LENGTH 5u     /* the length is not as the counts require: the file's length */
+#define NEKBROD_UNKNOWN_KIND 6u     /* unknown kind of record or entry: offset of its byte */
+#define NEKBROD_WRONG_FIELD 7u      /* a wrong field of a record: offset of the record; the inputs of all gates are too
+                                       few: offset of the first link; a score out of rule: offset of the score */
+#define NEKBROD_NOT_BELOW 8u        /* a link that is not below its gate: offset of the link */
+#define NEKBROD_LINKED_BEFORE 9u    /* a node that is linked a second time: offset of the second link */
+#define NEKBROD_NUMBER_ORDER 10u    /* four numbers out of order or above 1: offset of the entry */
+#define NEKBROD_WRONG_TERM 11u      /* a term above 7, or not 0 after the last expert: offset of the term */
+#define NEKBROD_NOBODY_SPOKE 12u    /* an opinion entry in which nobody spoke: offset of the entry */
+#define NEKBROD_WRONG_FRACTIONS 28u /* a fraction entry with numerators that fall or exceed the denominator, a
+                                       denominator not from 1 to 1000000, or a last byte not 0: offset of the entry */
+#define NEKBROD_SHORT_STORE 20u     /* the store is shorter than the accepted file: 0 */
 /* Of a level, and of what is held and lent for it. */
 #define NEKBROD_WRONG_LEVEL 13u /* the level is out of range: 0 */
 #define NEKBROD_NO_TREE 21u     /* no tree is held: 0 */
@@ -150,8 +152,8 @@ nekbrod_answer nekbrod_hand_in_tree(nekbrod_state state, const uint8_t *file, si
 /*
  * Hands in an opinion sheet.
  * Reads sheet[0 .. sheet_len). Accepted, it is copied to the front of the store, the rest of the store stays, and the
- * state holds it in place of the one before, beside the tree as before. Refused by the first fault of 1 to 7 and 10 to
- * 12, else by 20.
+ * state holds it in place of the one before, beside the tree as before. Refused by the first fault of 1 to 7, 10 to 12
+ * and 28, else by 20.
  */
 nekbrod_answer nekbrod_hand_in_sheet(nekbrod_state state, const uint8_t *sheet, size_t sheet_len, uint8_t *sheet_store,
                                      size_t sheet_store_len);

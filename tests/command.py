@@ -1,5 +1,5 @@
 # The command at the root: every shipped example, levels to the byte and cut sets by brute force, its refusals in words,
-# bad arguments, building, signals.
+# a maker's figures, bad arguments, building, signals.
 # All but the shipped examples run in a copy, where a stand-in for rt is on the path.
 import itertools
 import os
@@ -343,10 +343,25 @@ def terms(*of_experts, kind=1, last=0):
     return bytes([kind, *of_experts]) + bytes(15 - len(of_experts)) + bytes([last])
 
 
+def fractions(denominator, *numerators, kind=2, last=0):
+    numbers = (denominator, *numerators)
+    return bytes([kind]) + b"".join(number.to_bytes(3, "little") for number in numbers) + bytes([last])
+
+
 EVENT = (0, 0, 0)
 ONE = tree([EVENT], [])
 TWO = tree([EVENT, (0, 1, 0), (2, 0, 2)], [0, 1])
 GOOD = sheet([four(0, 1, 1, 2)])
+
+
+def wrong_fractions(name, denominator, a, b, c, d, last=0):
+    """A case of 28 in a sheet of one entry, as those in REFUSED."""
+    found, allowed = (f" and the last byte {last}", ", and the last byte 0") if last else ("", "")
+    return (name, ONE, sheet([fractions(denominator, a, b, c, d, last=last)]), 2, "refused 28 at 26", 0, "sheet",
+            f"the entry of event 0 has the numerators {a}, {b}, {c}, {d} over the denominator {denominator}{found}; "
+            "allowed: each numerator at least the one before it, and at most the denominator, which is 1 to 1000000"
+            + allowed)
+
 
 # Name, tree, sheet, levels, the printer's line, which of its number's rows in the page's table, the file, what is said.
 REFUSED = [
@@ -373,10 +388,10 @@ REFUSED = [
      "the file has 44 bytes; allowed: 43, which is 26 + 17 × E for E = 1"),
     ("a record of kind 3", tree([EVENT, (3, 0, 1)], [0]), GOOD, 2, "refused 6 at 14", 0, "tree",
      "record 1 has the kind 3; allowed: 0 (basic event), 1 (AND), 2 (OR)"),
-    ("an entry of kind 2", ONE, sheet([terms(kind=2)]), 2, "refused 6 at 26", 0, "sheet",
-     "the entry of event 0 has the kind 2; allowed: 0 (four numbers), 1 (opinions)"),
+    ("an entry of kind 3", ONE, sheet([fractions(1, 1, 0, 0, 0, kind=3, last=1)]), 2, "refused 6 at 26", 0, "sheet",
+     "the entry of event 0 has the kind 3; allowed: 0 (four numbers), 1 (opinions), 2 (fractions)"),
     ("a second entry of kind 9", TWO, sheet([four(0, 0, 0, 0), terms(kind=9)]), 2, "refused 6 at 43", 0, "sheet",
-     "the entry of event 1 has the kind 9; allowed: 0 (four numbers), 1 (opinions)"),
+     "the entry of event 1 has the kind 9; allowed: 0 (four numbers), 1 (opinions), 2 (fractions)"),
     ("an event's number", tree([EVENT, (0, 4, 0), (2, 0, 2)], [0, 1]), GOOD, 2, "refused 7 at 14", 0, "tree",
      "record 1, a basic event, has a = 4 and b = 0; allowed: a = 1 and b = 0"),
     ("an event with inputs", tree([(0, 0, 1)], []), GOOD, 2, "refused 7 at 9", 0, "tree",
@@ -419,6 +434,18 @@ REFUSED = [
      "expert 15's term for event 1 is 1; allowed: 0 after the last expert (experts: 2)"),
     ("nobody spoke", ONE, sheet([terms()], scores=[1, 1]), 2, "refused 12 at 26", 0, "sheet",
      "the entry of event 0 has no term but 0 (experts: 2); allowed: a term from 1 to 7 by one expert at the least"),
+    wrong_fractions("a second numerator below the first", 1250, 3, 2, 3, 6),
+    wrong_fractions("a third numerator below the second", 1000000, 65536, 131072, 131071, 200000),
+    wrong_fractions("a last numerator below the third", 256, 0, 255, 256, 255),
+    wrong_fractions("a numerator above the denominator", 1250, 1, 3, 3, 1251),
+    wrong_fractions("a denominator of 0", 0, 0, 0, 0, 0),
+    wrong_fractions("a denominator above 1,000,000", 1000001, 0, 1, 2, 3),
+    wrong_fractions("the largest number of three bytes", 16777215, 0, 0, 0, 16777215),
+    wrong_fractions("a last byte of 7", 1250, 3, 3, 3, 3, last=7),
+    wrong_fractions("everything wrong in a fraction entry", 0, 9, 8, 7, 6, last=255),
+    ("a second entry, of fractions, after opinions", TWO, sheet([terms(1), fractions(3, 0, 0, 0, 4)], scores=[1]), 2,
+     "refused 28 at 43", 0, "sheet", "the entry of event 1 has the numerators 0, 0, 0, 4 over the denominator 3; "
+     "allowed: each numerator at least the one before it, and at most the denominator, which is 1 to 1000000"),
 ]
 
 QUESTIONED = [
@@ -474,7 +501,7 @@ def refusals(work, copy):
         refused(name, ask(tree_bytes, sheet_bytes, levels), line,
                 f"refusal {line.split()[1]}: {cells[0]}. {found}", f"aboard: {cells[3]}")
     given = {int(case[4].split()[1]) for case in REFUSED + QUESTIONED}
-    hold("each number that the printer gives", given == {*range(1, 14), 24})
+    hold("each number that the printer gives", given == {*range(1, 14), 24, 28})
     ran = copy.run(ROAD[1], ROAD[0], "2")
     hold("files in the wrong order", ran.out == b"refused 2 at 0\n" and ran.status == 1, ran)
     look = "see that each file is the right one"
@@ -501,6 +528,27 @@ def the_page(copy, ask):
     hold("no page: status", ran.status == 1, ran)
     hold("no page: the sentence", "refusal 12. The opinion sheet" in ran.errors, ran)
     write(page, kept)
+
+
+# Name, a fraction entry's denominator and numerators, and by hand what each level from the highest down to 0 prints.
+ANSWERED = [
+    ("3 failures in 1,250 starts", (1250, 3, 3, 3, 3), ["2400000 = 2400000 ="] * 2),
+    ("3 in 1,250, 1 at the least and 6 at the most", (1250, 1, 3, 3, 6),
+     ["2400000 = 2400000 =", "1600000 = 3600000 =", "800000 = 4800000 ="]),
+    ("1 in 3", (3, 1, 1, 1, 1), ["333333333 ~ 333333334 ~"] * 2),
+    # Half way from 1/3 to 2/3 is 1/2, which is exact if neither was rounded before.
+    ("thirds", (3, 1, 2, 2, 3), ["666666666 ~ 666666667 ~", "500000000 = 833333334 ~", "333333333 ~ 1000000000 ="]),
+    ("the largest denominator", (1000000, 0, 1, 999999, 1000000), ["1000 = 999999000 =", "0 = 1000000000 ="]),
+]
+
+
+def fraction_entries(work, copy):
+    pair = write(os.path.join(work, "maker/tree"), ONE), os.path.join(work, "maker/sheet")
+    for name, numbers, levels in ANSWERED:
+        write(pair[1], sheet([fractions(*numbers)]))
+        n = len(levels) - 1
+        text = f"tree 7 events 1 levels {n}\n" + "".join(f"{n - i} {line}\n" for i, line in enumerate(levels))
+        printed(name, copy.run(*pair, str(n)), text.encode())
 
 
 def bad_arguments(work, copy):
@@ -1091,6 +1139,7 @@ def main():
         bad_arguments(work, copy)
         file_names(work, copy)
         refusals(work, copy)
+        fraction_entries(work, copy)
         calls(work, copy)
         cut_sets(work, copy)
         outputs(copy)
