@@ -8,7 +8,7 @@ vectors=$root/crates/vectors
 level_cases=$root/crates/level_cases
 
 level_inputs() {
-    "$reference" cases 1 34 limits - && "$reference" cases 1 250 mixed -
+    "$reference" cases 1 34 limits - && "$reference" cases 1 250 mixed - && "$reference" cases 1 60 fractions -
 }
 
 : >"$work/out"

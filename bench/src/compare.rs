@@ -4,11 +4,12 @@
 use crate::capi::{CAPI, PEER};
 use crate::desk::{guarded, Desk, Difference, Tally};
 use reference::calls::{parse_call, Call};
+use reference::cases::fractions::FRACTION_CASES;
 use reference::cases::large_damage::LARGE_DAMAGES;
 use reference::cases::limits::LIMITS;
 use reference::cases::valid::{lively_pair, small_tree};
 use reference::cases::vector_list::vector_list;
-use reference::cases::{write_case, Kind};
+use reference::cases::{is_input, write_case, Kind};
 use reference::cut::Level;
 use reference::levels::INPUT_HEADER;
 use reference::random::Random;
@@ -28,13 +29,14 @@ pub struct Cases {
     pub first: u64,
 }
 
-/// What is run: the stored calls, the limits and the faults in large files come before the generated cases of a whole
-/// run.
+/// What is run: the stored calls, the limits, the faults in large files and a round of fraction entries come before the
+/// generated cases of a whole run.
 #[derive(Clone, Copy, Debug)]
 pub enum Case {
     Stored,
     Limit(u64),
     Large(u64),
+    Fractions(u64),
     Generated(u64),
 }
 
@@ -42,7 +44,7 @@ impl Case {
     /// The words that run this case again, with little beside it.
     pub fn again(self, seed: u64) -> String {
         match self {
-            Case::Stored | Case::Limit(_) | Case::Large(_) => format!("{seed} 0"),
+            Case::Stored | Case::Limit(_) | Case::Large(_) | Case::Fractions(_) => format!("{seed} 0"),
             Case::Generated(index) => format!("{seed} 1 {index}"),
         }
     }
@@ -52,6 +54,7 @@ impl Case {
             Case::Stored => vector_list(),
             Case::Limit(index) => input_calls(&write_case(Kind::Limits, seed, index), seed ^ index),
             Case::Large(index) => input_calls(&write_case(Kind::Large, seed, index), seed ^ index),
+            Case::Fractions(index) => input_calls(&write_case(Kind::Fractions, seed, index), seed ^ index),
             Case::Generated(index) => generated_calls(seed, index),
         }
     }
@@ -63,6 +66,7 @@ impl Display for Case {
             Case::Stored => write!(out, "stored calls"),
             Case::Limit(index) => write!(out, "limit {index}"),
             Case::Large(index) => write!(out, "fault {index} in a large file"),
+            Case::Fractions(index) => write!(out, "case {index} of fraction entries"),
             Case::Generated(index) => write!(out, "case {index}"),
         }
     }
@@ -77,10 +81,11 @@ pub struct Found {
 }
 
 /// Runs the cases to the first difference. A run from case 0 on has the stored calls, every limit and every fault in
-/// large files before them.
+/// large files and in fraction entries before them.
 pub fn compare(cases: Cases) -> (Tally, Result<(), Found>) {
     let mut tally = Tally::default();
     let listed = (0..LIMITS.len() as u64).map(Case::Limit).chain((0..LARGE_DAMAGES as u64).map(Case::Large));
+    let listed = listed.chain((0..FRACTION_CASES).map(Case::Fractions));
     let first = [Case::Stored].into_iter().chain(listed).filter(|_| cases.first == 0);
     let generated = (cases.first..cases.first.saturating_add(cases.count)).map(Case::Generated);
     for case in first.chain(generated) {
@@ -101,12 +106,13 @@ fn run_calls(desk: &mut Desk, calls: &[Call]) -> Result<(), (usize, Difference)>
     Ok(())
 }
 
-/// A list of calls, an input of the printer and a list of calls for cut sets by turns; each kind keeps a count of its
-/// own.
+/// A list of calls, an input of the printer, a list of calls for cut sets and an input with fraction entries by turns;
+/// each kind keeps a count of its own.
 fn generated_calls(seed: u64, index: u64) -> Vec<Call> {
-    let (kind, turn) = ([Kind::Calls, Kind::Mixed, Kind::Sets][(index % 3) as usize], index / 3);
+    let kinds = [Kind::Calls, Kind::Mixed, Kind::Sets, Kind::Fractions];
+    let (kind, turn) = (kinds[(index % 4) as usize], index / 4);
     let case = write_case(kind, seed, turn);
-    if kind == Kind::Mixed {
+    if is_input(kind) {
         return input_calls(&case, seed ^ index);
     }
     let parsed = |line: &str| parse_call(line).unwrap_or_else(|| panic!("{line:?} is no call"));

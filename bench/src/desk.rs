@@ -9,6 +9,7 @@ use reference::cut::Level;
 use reference::cut_sets;
 use reference::evaluation::WorkSlices;
 use reference::monitor::{self, Stores};
+use reference::opinion_sheet;
 use std::fmt::Debug;
 use std::panic::{self, AssertUnwindSafe};
 
@@ -47,6 +48,8 @@ pub struct Tally {
     pub calls: u64,
     pub questions: u64,
     pub answered: u64,
+    /// Those answered from a sheet with a fraction entry.
+    pub fractions: u64,
     /// Questions where the tree or the sheet is missing: refusals 21 and 22.
     pub unheld: u64,
     pub hand_ins: u64,
@@ -62,6 +65,7 @@ impl Tally {
         self.calls += other.calls;
         self.questions += other.questions;
         self.answered += other.answered;
+        self.fractions += other.fractions;
         self.unheld += other.unheld;
         self.hand_ins += other.hand_ins;
         self.accepted += other.accepted;
@@ -204,6 +208,7 @@ impl Desk {
         let wanted = monitor::question(expected::held(state), stores, Level { k, n }, work);
         self.tally.questions += 1;
         self.tally.answered += u64::from(wanted.1.is_ok());
+        self.tally.fractions += u64::from(wanted.1.is_ok_and(|answer| has_fractions(&memory.sheet, answer.events)));
         self.tally.unheld += u64::from(wanted.1.is_err_and(|refusal| [21, 22].contains(&refusal.number)));
         self.state = expected::state(wanted.0);
         self.compare(expected::reply(wanted), |library, memory| {
@@ -278,6 +283,11 @@ impl Memory {
         same_places("upper ends", &self.upper, &wanted.upper)?;
         same_places("marks", &self.marks, &wanted.marks)
     }
+}
+
+/// Whether one of the entries of an accepted sheet has fractions.
+fn has_fractions(sheet: &[u8], events: usize) -> bool {
+    (0..events).any(|event| sheet[opinion_sheet::entry_place(event)] == opinion_sheet::FRACTIONS)
 }
 
 fn same_places<T: PartialEq + Debug>(name: &str, found: &[T], wanted: &[T]) -> Checked {

@@ -2,7 +2,7 @@
 
 use bench::compare::{compare, Cases};
 use bench::desk::Tally;
-use bench::ratios::{costs, Cost, Entries, Size};
+use bench::ratios::{costs, Cost, Entries, Shape, Size};
 use bench::sets;
 use bench::soak::soak;
 use std::process::ExitCode;
@@ -11,17 +11,30 @@ use std::time::{Instant, SystemTime, UNIX_EPOCH};
 const USAGE: &str = "\
 bench                               questions through capi beside the same to the peer: ratios, and the cost per node
 bench compare [SEED COUNT [FIRST]]  generated cases through capi, the peer and reference/, from case FIRST on; with no
-                                    FIRST all limits and all faults in large files too
+                                    FIRST all limits and all faults in large files and in fraction entries too
 bench soak [SEED CALLS]             calls in a random order through capi and reference/, each checked
 bench sets                          lists of up to a million cut sets through capi beside reference/: ratios, and the
                                     cost per set
 ";
 
-const CASES: u64 = 75_000;
+const CASES: u64 = 100_000;
 const SOAK_CALLS: u64 = 10_000_000;
-const NODES: [usize; 6] = [3, 64, 127, 255, 511, 1_023];
-const ENTRIES: [(Entries, &str); 3] =
-    [(Entries::Numbers, "four numbers"), (Entries::Opinions, "opinions"), (Entries::Both, "both")];
+/// The last has 960 events under 64 gates.
+const TREES: [(Shape, usize); 7] = [
+    (Shape::Paired, 3),
+    (Shape::Paired, 64),
+    (Shape::Paired, 127),
+    (Shape::Paired, 255),
+    (Shape::Paired, 511),
+    (Shape::Paired, 1_023),
+    (Shape::MostEvents, 1_024),
+];
+const ENTRIES: [(Entries, &str); 4] = [
+    (Entries::Numbers, "four numbers"),
+    (Entries::Opinions, "opinions"),
+    (Entries::Both, "both"),
+    (Entries::Fractions, "fractions"),
+];
 
 fn main() -> ExitCode {
     let arguments: Vec<String> = std::env::args().skip(1).collect();
@@ -62,8 +75,9 @@ fn any_seed() -> u64 {
 }
 
 fn counts(tally: Tally) -> String {
-    let Tally { calls, questions, answered, unheld, hand_ins, accepted, lists, listed, sets } = tally;
-    let questions = format!("{questions} questions, {answered} answered, {unheld} with nothing to answer from");
+    let Tally { calls, questions, answered, fractions, unheld, hand_ins, accepted, lists, listed, sets } = tally;
+    let answered = format!("{answered} answered, {fractions} of these with fraction entries");
+    let questions = format!("{questions} questions, {answered}, {unheld} with nothing to answer from");
     let lists = format!("{lists} lists of cut sets, {listed} answered with {sets} sets");
     format!("{calls} calls: {questions}; {hand_ins} hand-ins, {accepted} accepted; {lists}")
 }
@@ -97,14 +111,14 @@ fn run_soak(seed: u64, calls: u64) -> bool {
 /// Figures are for reading: nothing is held to them here.
 fn print_ratios() -> bool {
     let sizes: Vec<Size> =
-        ENTRIES.iter().flat_map(|&(entries, _)| NODES.map(|nodes| Size { nodes, entries })).collect();
-    let names = ENTRIES.iter().flat_map(|&(_, name)| NODES.map(|_| name));
-    println!("                       a question, ns              a node, ns");
-    println!("entries       nodes      capi      peer  capi/peer    capi    peer");
+        ENTRIES.iter().flat_map(|&(entries, _)| TREES.map(|(shape, nodes)| Size { shape, nodes, entries })).collect();
+    let names = ENTRIES.iter().flat_map(|&(_, name)| TREES.map(|_| name));
+    println!("                              a question, ns              a node, ns");
+    println!("entries       nodes events      capi      peer  capi/peer    capi    peer");
     for ((size, name), cost) in sizes.iter().zip(names).zip(costs(&sizes)) {
         let nodes = size.nodes as f64;
-        let Cost { capi, peer, ratio } = cost;
-        print!("{name:12} {:6} {capi:9.0} {peer:9.0} {ratio:10.2}", size.nodes);
+        let Cost { events, capi, peer, ratio } = cost;
+        print!("{name:12} {:6} {events:6} {capi:9.0} {peer:9.0} {ratio:10.2}", size.nodes);
         println!(" {:7.1} {:7.1}", capi / nodes, peer / nodes);
     }
     true

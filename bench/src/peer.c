@@ -1,6 +1,7 @@
 /*
- * The peer: document 01 in plain C, written for speed and without a proof. The proved C library is timed beside it.
- * Its calls are those of include/nekbrod.h with peer_ for nekbrod_, and answer as it says.
+ * The peer: document 01 with the fraction entries of document 02, in plain C, written for speed and without a proof.
+ * The proved C library is timed beside it. Its calls are those of include/nekbrod.h with peer_ for nekbrod_, and answer
+ * as it says.
  */
 #include <nekbrod.h>
 #include <string.h>
@@ -20,7 +21,10 @@
 #define MOST_INPUTS 16
 enum { EVENT, AND, OR };
 
-/* The opinion sheet: a header that ends with the scores, and entries of a kind byte and four numbers or terms. */
+/*
+ * The opinion sheet: a header that ends with the scores, and entries of a kind byte and four numbers, terms, or a
+ * denominator with four numerators and a byte of 0.
+ */
 #define SHEET_HEADER 26
 #define EVENTS 7
 #define EXPERTS 9
@@ -29,7 +33,8 @@ enum { EVENT, AND, OR };
 #define BEST_SCORE 100
 #define ENTRY 17
 #define MOST_EVENTS 1024
-enum { NUMBERS, OPINIONS };
+#define LARGEST_DENOMINATOR 1000000
+enum { NUMBERS, OPINIONS, FRACTIONS };
 
 /* a, b = c and d of each term in hundredths; term 0 says nothing. */
 static const uint8_t TERMS[8][3] = {{0, 0, 0},    {0, 4, 8},    {7, 13, 19},  {17, 27, 37},
@@ -46,6 +51,12 @@ static uint32_t field16(const uint8_t *at)
 static uint32_t field32(const uint8_t *at)
 {
     return field16(at) | field16(at + 2) << 16;
+}
+
+/* Three bytes; the one behind them is read too. */
+static uint32_t field24(const uint8_t *at)
+{
+    return field32(at) & 0xffffff;
 }
 
 static nekbrod_refusal refused(size_t number, size_t place)
@@ -166,15 +177,27 @@ static nekbrod_refusal judge_scores(const uint8_t *sheet)
     return not_refused();
 }
 
-/* Refusals 6 and 10 to 12. */
+/* Refusal 28. The last byte is read as the highest of d: if it is not 0, d is above every denominator. */
+static nekbrod_refusal judge_fractions(const uint8_t *sheet, const uint8_t *entry)
+{
+    uint32_t denominator = field24(entry + 1);
+    uint32_t a = field24(entry + 4), b = field24(entry + 7), c = field24(entry + 10), d = field32(entry + 13);
+    bool bad_denominator = denominator < 1 || denominator > LARGEST_DENOMINATOR;
+    return a > b || b > c || c > d || d > denominator || bad_denominator ? refused(28, entry - sheet) : not_refused();
+}
+
+/* Refusals 6, 10 to 12 and 28. */
 static nekbrod_refusal judge_entry(const uint8_t *sheet, const uint8_t *entry)
 {
-    if (entry[0] > OPINIONS) {
+    if (entry[0] > FRACTIONS) {
         return refused(6, entry - sheet);
     }
     if (entry[0] == NUMBERS) {
         uint32_t a = field32(entry + 1), b = field32(entry + 5), c = field32(entry + 9), d = field32(entry + 13);
         return a > b || b > c || c > d || d > UNIT ? refused(10, entry - sheet) : not_refused();
+    }
+    if (entry[0] == FRACTIONS) {
+        return judge_fractions(sheet, entry);
     }
     uint8_t spoke = 0;
     for (size_t expert = 0; expert < MOST_EXPERTS; expert++) {
@@ -227,6 +250,22 @@ static cut opinions_cut(const uint8_t *sheet, const uint8_t *entry, uint64_t k, 
     return (cut){(a * (n - k) + b * k) * HUNDREDTH, (d * (n - k) + b * k) * HUNDREDTH, weight * n};
 }
 
+/* The cut of an accepted fraction entry: at most 1000000 * 1000 * UNIT, below 2 to the 64th. */
+static cut fractions_cut(const uint8_t *entry, uint64_t k, uint64_t n)
+{
+    uint64_t denominator = field24(entry + 1);
+    uint64_t a = field24(entry + 4), b = field24(entry + 7), c = field24(entry + 10), d = field24(entry + 13);
+    return (cut){(a * (n - k) + b * k) * UNIT, (d * (n - k) + c * k) * UNIT, denominator * n};
+}
+
+static cut entry_cut(const uint8_t *sheet, const uint8_t *entry, uint64_t k, uint64_t n)
+{
+    if (entry[0] == NUMBERS) {
+        return numbers_cut(entry, k, n);
+    }
+    return entry[0] == OPINIONS ? opinions_cut(sheet, entry, k, n) : fractions_cut(entry, k, n);
+}
+
 /* An end of a node in units, and whether it is exact. */
 typedef struct end {
     uint64_t units;
@@ -272,7 +311,7 @@ static void evaluate(const uint8_t *tree, size_t nodes, const uint8_t *sheet, ui
     for (size_t node = 0; node < nodes; node++) {
         const uint8_t *record = tree + TREE_HEADER + RECORD * node;
         if (record[0] == EVENT) {
-            cut exact = entry[0] == NUMBERS ? numbers_cut(entry, k, n) : opinions_cut(sheet, entry, k, n);
+            cut exact = entry_cut(sheet, entry, k, n);
             uint64_t low_rest = exact.lower % exact.denominator, high_rest = exact.upper % exact.denominator;
             lower[node] = exact.lower / exact.denominator;
             upper[node] = exact.upper / exact.denominator + (high_rest != 0);

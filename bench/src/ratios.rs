@@ -3,8 +3,9 @@
 
 use crate::capi::{Library, Reply, State, Work, CAPI, ONE, PEER};
 use reference::cases::sheets::any_opinions;
-use reference::cases::trees::{count_events, gate};
-use reference::describe::{sheet_bytes, tree_bytes, Entry, Node};
+use reference::cases::trees::{count_events, gate, most_events};
+use reference::describe::{fractions, sheet_bytes, tree_bytes, Entry, Node};
+use reference::opinion_sheet::LARGEST_DENOMINATOR;
 use reference::random::Random;
 use std::hint::black_box;
 use std::time::Instant;
@@ -22,18 +23,29 @@ pub enum Entries {
     Opinions,
     /// One after the other.
     Both,
+    Fractions,
 }
 
-/// The trees timed: the number of nodes, and the entries of the sheet.
+/// The trees timed: gates of two inputs over as many events, or the fewest gates over the most events.
+#[derive(Clone, Copy, Debug)]
+pub enum Shape {
+    Paired,
+    MostEvents,
+}
+
+/// The shape of a tree, its number of nodes, and the entries of the sheet.
 #[derive(Clone, Copy, Debug)]
 pub struct Size {
+    pub shape: Shape,
     pub nodes: usize,
     pub entries: Entries,
 }
 
-/// Median nanoseconds of a question, and the median over the rounds of the C library's time by the peer's.
+/// The number of events, median nanoseconds of a question, and the median over the rounds of the C library's time by
+/// the peer's.
 #[derive(Clone, Copy, Debug)]
 pub struct Cost {
+    pub events: usize,
     pub capi: f64,
     pub peer: f64,
     pub ratio: f64,
@@ -41,6 +53,7 @@ pub struct Cost {
 
 /// A held pair and the work slices, lent to both libraries, and what each round took.
 struct Bench {
+    events: usize,
     state: State,
     tree: Vec<u8>,
     sheet: Vec<u8>,
@@ -79,17 +92,25 @@ fn paired_tree(random: &mut Random, count: usize) -> Vec<Node> {
 }
 
 fn entry(random: &mut Random, entries: Entries, event: usize) -> Entry {
-    let numbers = match entries {
-        Entries::Numbers => true,
-        Entries::Opinions => false,
-        Entries::Both => event.is_multiple_of(2),
-    };
-    if !numbers {
-        return any_opinions(random, EXPERTS);
+    match entries {
+        Entries::Numbers => any_numbers(random),
+        Entries::Both if event.is_multiple_of(2) => any_numbers(random),
+        Entries::Opinions | Entries::Both => any_opinions(random, EXPERTS),
+        Entries::Fractions => {
+            let denominator = random.between(1, LARGEST_DENOMINATOR as usize) as u32;
+            fractions(denominator, rising(random, 0, denominator))
+        }
     }
-    let mut four = [0; 4].map(|_: u32| random.between(1, ONE as usize - 1) as u32);
+}
+
+fn any_numbers(random: &mut Random) -> Entry {
+    Entry::Four(rising(random, 1, ONE - 1))
+}
+
+fn rising(random: &mut Random, least: u32, most: u32) -> [u32; 4] {
+    let mut four = [0; 4].map(|_: u32| random.between(least as usize, most as usize) as u32);
     four.sort();
-    Entry::Four(four)
+    four
 }
 
 impl Bench {
@@ -102,11 +123,16 @@ impl Bench {
 
     fn holding(size: Size) -> Bench {
         let random = &mut Random::for_case(size.nodes as u64, 0);
-        let tree = paired_tree(random, size.nodes);
+        let tree = match size.shape {
+            Shape::Paired => paired_tree(random, size.nodes),
+            Shape::MostEvents => most_events(random, size.nodes),
+        };
+        let events = count_events(&tree);
         let scores: Vec<u8> = (0..EXPERTS).map(|_| random.between(1, 100) as u8).collect();
-        let entries: Vec<Entry> = (0..count_events(&tree)).map(|event| entry(random, size.entries, event)).collect();
+        let entries: Vec<Entry> = (0..events).map(|event| entry(random, size.entries, event)).collect();
         let (tree, sheet) = (tree_bytes(TREE_NUMBER, &tree), sheet_bytes(TREE_NUMBER, &scores, &entries));
         Bench {
+            events,
             state: State { tree_len: tree.len(), sheet_len: sheet.len() },
             tree,
             sheet,
@@ -128,7 +154,7 @@ impl Bench {
 
     fn cost(self) -> Cost {
         let ratios = self.capi.iter().zip(&self.peer).map(|(capi, peer)| capi / peer).collect();
-        Cost { capi: median(self.capi), peer: median(self.peer), ratio: median(ratios) }
+        Cost { events: self.events, capi: median(self.capi), peer: median(self.peer), ratio: median(ratios) }
     }
 
     fn ask(&mut self, library: &Library, k: u32) -> Reply {

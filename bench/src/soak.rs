@@ -4,6 +4,8 @@
 
 use crate::capi::{State, CAPI};
 use crate::desk::{guarded, Checked, Desk, Difference, Tally};
+use reference::cases::fraction_damage::faulty_sheet;
+use reference::cases::fraction_entries::{fractions_alone, fractions_beside};
 use reference::cases::set_trees::{set_count, set_tree};
 use reference::cases::sheet_damage::SHEET_DAMAGES;
 use reference::cases::tree_damage::TREE_DAMAGES;
@@ -51,11 +53,21 @@ impl Shelf {
         Shelf {
             pairs: (0..PAIRS).map(|_| any_files(random, trees)).collect(),
             bad_trees: (0..DAMAGED).map(|_| random.pick(&TREE_DAMAGES)(random).tree).collect(),
-            bad_sheets: (0..DAMAGED).map(|_| random.pick(&SHEET_DAMAGES)(random).sheet).collect(),
+            bad_sheets: (0..DAMAGED).map(|_| bad_sheet(random)).collect(),
         }
     }
 }
 
+/// One in four with a fault of a fraction entry.
+fn bad_sheet(random: &mut Random) -> Vec<u8> {
+    if random.percent(25) {
+        faulty_sheet(random)
+    } else {
+        random.pick(&SHEET_DAMAGES)(random).sheet
+    }
+}
+
+/// One sheet in three has fraction entries.
 fn any_files(random: &mut Random, trees: Trees) -> Files {
     let nodes = match trees {
         Trees::Little => little_tree(random),
@@ -64,7 +76,12 @@ fn any_files(random: &mut Random, trees: Trees) -> Files {
     };
     let count = nodes.len();
     let sets = set_count(&nodes).unwrap_or(1).min(MOST_SETS) as usize;
-    let pair = if random.percent(50) { any_pair(random, nodes) } else { lively_pair(random, nodes) };
+    let pair = match random.below(6) {
+        0 | 1 => any_pair(random, nodes),
+        2 | 3 => lively_pair(random, nodes),
+        4 => fractions_alone(random, nodes),
+        _ => fractions_beside(random, nodes),
+    };
     Files { tree: pair.tree(), sheet: pair.sheet(), nodes: count, sets }
 }
 

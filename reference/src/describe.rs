@@ -1,6 +1,6 @@
 //! Files written from a description. Nothing is judged: a faulty description gives a faulty file.
 
-use crate::opinion_sheet::{FOUR_NUMBERS, MOST_EXPERTS, OPINIONS};
+use crate::opinion_sheet::{FOUR_NUMBERS, FRACTIONS, MOST_EXPERTS, OPINIONS};
 use crate::tree_file::{AND, EVENT, OR};
 
 /// A node with the nodes that it links, in link order.
@@ -16,10 +16,20 @@ pub enum Entry {
     Four([u32; 4]),
     /// The terms of the experts, 0 for silence; the places after the last are filled with 0.
     Opinions(Vec<u8>),
+    /// Each number is below 2 to the 24th; the last byte is 0 in an acceptable entry.
+    Fractions {
+        denominator: u32,
+        numerators: [u32; 4],
+        last: u8,
+    },
 }
 
 pub fn same(units: u32) -> Entry {
     Entry::Four([units; 4])
+}
+
+pub fn fractions(denominator: u32, numerators: [u32; 4]) -> Entry {
+    Entry::Fractions { denominator, numerators, last: 0 }
 }
 
 impl Node {
@@ -69,18 +79,33 @@ pub fn sheet_bytes(number: u16, scores: &[u8], entries: &[Entry]) -> Vec<u8> {
     file.push(scores.len() as u8);
     file.extend(sixteen(scores));
     for entry in entries {
-        match entry {
-            Entry::Four(numbers) => {
-                file.push(FOUR_NUMBERS);
-                file.extend(numbers.iter().flat_map(|number| number.to_le_bytes()));
-            }
-            Entry::Opinions(terms) => {
-                file.push(OPINIONS);
-                file.extend(sixteen(terms));
-            }
-        }
+        write_entry(&mut file, entry);
     }
     file
+}
+
+fn write_entry(file: &mut Vec<u8>, entry: &Entry) {
+    match entry {
+        Entry::Four(numbers) => {
+            file.push(FOUR_NUMBERS);
+            file.extend(numbers.iter().flat_map(|number| number.to_le_bytes()));
+        }
+        Entry::Opinions(terms) => {
+            file.push(OPINIONS);
+            file.extend(sixteen(terms));
+        }
+        Entry::Fractions { denominator, numerators, last } => {
+            file.push(FRACTIONS);
+            file.extend(three_bytes(*denominator));
+            file.extend(numerators.iter().flat_map(|&numerator| three_bytes(numerator)));
+            file.push(*last);
+        }
+    }
+}
+
+fn three_bytes(number: u32) -> [u8; 3] {
+    let [low, middle, high, _] = number.to_le_bytes();
+    [low, middle, high]
 }
 
 fn sixteen(bytes: &[u8]) -> [u8; MOST_EXPERTS] {

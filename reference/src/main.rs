@@ -1,6 +1,7 @@
 //! The commands; `reference` alone lists them.
 
 use reference::calls::run_calls;
+use reference::cases::fractions::FRACTION_CASES;
 use reference::cases::large_damage::LARGE_DAMAGES;
 use reference::cases::limits::LIMITS;
 use reference::cases::vector_list::vector_list;
@@ -23,15 +24,16 @@ reference each levels|cut-sets|calls < stream  the same for each framed case; th
 reference vectors stream                       the stored list of calls as bytes (src/vectors.rs says the format)
 reference vectors text < stream                what crates/vectors must print for such bytes
 reference cases SEED COUNT KIND DIR|-          cases as files in DIR, or framed to standard output
-    KIND: valid limits damaged changed mixed calls sets trees large
+    KIND: valid limits damaged changed mixed calls sets trees large fractions
 reference case SEED INDEX KIND                 one of these cases to standard output
 reference limits                               how many limits there are: so many cases of that kind have all
 reference large                                the same of the faults in large files
+reference fractions                            the same of the limits and faults of fraction entries
 reference compare SEED COUNT KIND PROGRAM [WORD...]
     such cases given to a level printer, one run each; status 1 where it prints anything else than `levels` here
 reference example NAME tree|sheet              a file of an example
 reference example NAME input N                 the printer's input for an example with N levels
-    NAME: road_trip container_seal fuel_supply
+    NAME: road_trip container_seal fuel_supply cooling_pumps
 ";
 
 /// Usage: no such command. Broken: a line of the list is no call, or the stream ends inside a case.
@@ -91,6 +93,7 @@ fn run(words: &[&str]) -> Result<(), Failure> {
         ["case", seed, index, kind] => Ok(write_out(&write_case(any_kind(kind)?, number(seed)?, number(index)?))?),
         ["limits"] => Ok(write_out(format!("{}\n", LIMITS.len()).as_bytes())?),
         ["large"] => Ok(write_out(format!("{LARGE_DAMAGES}\n").as_bytes())?),
+        ["fractions"] => Ok(write_out(format!("{FRACTION_CASES}\n").as_bytes())?),
         ["compare", seed, count, kind, ref program @ ..] if !program.is_empty() => {
             compare_cases(Cases { seed: number(seed)?, count: number(count)?, kind: any_kind(kind)? }, program)
         }

@@ -1,7 +1,8 @@
-//! The four numbers of an entry as fractions of a unit: as given, or the mean of the opinions weighted by score.
+//! The four numbers of an entry as fractions of a unit: as given in units, as a maker's fractions of 1, or as the mean
+//! of the opinions weighted by score.
 
 use crate::end::U;
-use crate::opinion_sheet::Entry;
+use crate::opinion_sheet::{Entry, Fractions};
 
 /// a, b = c and d of each term in hundredths of 1 (source 000, table 5); term code 1 stands first.
 pub const TERMS: [[u32; 3]; 7] =
@@ -21,7 +22,14 @@ pub fn four_numbers(entry: &Entry) -> Four {
     match entry {
         Entry::Four(numbers) => Four { numerators: numbers.map(u128::from), denominator: 1 },
         Entry::Opinions { scores, terms } => weighted_mean(scores, terms),
+        Entry::Fractions(fractions) => in_units(fractions),
     }
+}
+
+/// Fractions of 1, not rounded. The denominator is above 0 in an accepted sheet.
+fn in_units(fractions: &Fractions) -> Four {
+    let numerators = fractions.numerators.map(|numerator| numerator as u128 * U as u128);
+    Four { numerators, denominator: fractions.denominator as u128 }
 }
 
 /// The denominator is the total score of those who spoke: above 0 in an accepted sheet.

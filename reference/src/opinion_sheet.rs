@@ -1,7 +1,8 @@
 //! The opinion sheet's layout, and reading an accepted one.
-//! Header of 26 bytes with sixteen scores, then E entries of 17 (kind, then four numbers or sixteen terms).
+//! Header of 26 bytes with sixteen scores, then E entries of 17: a kind, then four numbers, sixteen terms, or a
+//! denominator with four numerators and a byte of 0.
 
-use crate::bytes::{read_16, read_32};
+use crate::bytes::{read_16, read_24, read_32};
 
 pub const LETTERS: &[u8] = b"FTS";
 pub const VERSION_PLACE: usize = 3;
@@ -17,14 +18,28 @@ pub const BEST_SCORE: u8 = 100;
 
 pub const FOUR_NUMBERS: u8 = 0;
 pub const OPINIONS: u8 = 1;
+/// A maker's figures, failures over starts (02, CR 2).
+pub const FRACTIONS: u8 = 2;
+pub const LARGEST_DENOMINATOR: u32 = 1_000_000;
 
 pub fn entry_place(event: usize) -> usize {
     HEADER + ENTRY * event
 }
 
-/// A byte of the sixteen behind the kind: term `offset`, or the first byte of number `offset / 4`.
+/// A byte of the sixteen behind the kind: term `offset`, the first byte of number `offset / 4`, or of 3-byte number
+/// `offset / 3`.
 pub fn inside_entry(event: usize, offset: usize) -> usize {
     entry_place(event) + 1 + offset
+}
+
+/// The denominator stands first, then a, b, c and d.
+pub fn fraction_place(event: usize, number: usize) -> usize {
+    inside_entry(event, 3 * number)
+}
+
+/// The byte behind the five numbers of a fraction entry.
+pub fn last_place(event: usize) -> usize {
+    fraction_place(event, 5)
 }
 
 pub fn file_length(events: usize) -> usize {
@@ -33,6 +48,18 @@ pub fn file_length(events: usize) -> usize {
 
 pub fn read_four(file: &[u8], event: usize) -> [u32; 4] {
     [0, 1, 2, 3].map(|number| read_32(file, inside_entry(event, 4 * number)))
+}
+
+/// Four numerators over one denominator.
+#[derive(Clone, Copy, PartialEq, Eq, Debug)]
+pub struct Fractions {
+    pub denominator: u32,
+    pub numerators: [u32; 4],
+}
+
+pub fn read_fractions(file: &[u8], event: usize) -> Fractions {
+    let number = |number| read_24(file, fraction_place(event, number));
+    Fractions { denominator: number(0), numerators: [1, 2, 3, 4].map(number) }
 }
 
 /// An opinion sheet that was judged and accepted.
@@ -50,6 +77,7 @@ pub enum Entry<'a> {
         scores: &'a [u8],
         terms: &'a [u8],
     },
+    Fractions(Fractions),
 }
 
 impl<'a> Sheet<'a> {
@@ -58,12 +86,13 @@ impl<'a> Sheet<'a> {
     }
 
     pub fn entry(&self, event: usize) -> Entry<'a> {
-        if self.file[entry_place(event)] == FOUR_NUMBERS {
-            return Entry::Four(read_four(self.file, event));
-        }
-        Entry::Opinions {
-            scores: &self.file[SCORES_PLACE..HEADER],
-            terms: &self.file[inside_entry(event, 0)..entry_place(event + 1)],
+        match self.file[entry_place(event)] {
+            FOUR_NUMBERS => Entry::Four(read_four(self.file, event)),
+            OPINIONS => Entry::Opinions {
+                scores: &self.file[SCORES_PLACE..HEADER],
+                terms: &self.file[inside_entry(event, 0)..entry_place(event + 1)],
+            },
+            _ => Entry::Fractions(read_fractions(self.file, event)),
         }
     }
 }

@@ -1,4 +1,4 @@
-//! A refusal: document 01's number and place.
+//! A refusal: the number and place of documents 01 and 02.
 
 #[derive(Clone, Copy, PartialEq, Eq, Debug)]
 pub struct Refusal {

@@ -1,4 +1,4 @@
-//! The first fault of an opinion sheet in document 01's order, or the accepted sheet.
+//! The first fault of an opinion sheet in the order of documents 01 and 02, or the accepted sheet.
 
 use crate::bytes::read_16;
 use crate::end::U;
@@ -43,6 +43,7 @@ fn judge_entry(file: &[u8], event: usize, experts: usize) -> Result<(), Refusal>
     match file[entry_place(event)] {
         FOUR_NUMBERS => judge_four(file, event),
         OPINIONS => judge_terms(file, event, experts),
+        FRACTIONS => judge_fractions(file, event),
         _ => refuse_if(true, 6, entry_place(event)),
     }
 }
@@ -51,6 +52,15 @@ fn judge_entry(file: &[u8], event: usize, experts: usize) -> Result<(), Refusal>
 fn judge_four(file: &[u8], event: usize) -> Result<(), Refusal> {
     let [a, b, c, d] = read_four(file, event);
     refuse_if(!(a <= b && b <= c && c <= d && d <= U), 10, entry_place(event))
+}
+
+/// Refusal 28: numerators that fall or exceed the denominator, a bad denominator, or a last byte that is not 0.
+fn judge_fractions(file: &[u8], event: usize) -> Result<(), Refusal> {
+    let Fractions { denominator, numerators: [a, b, c, d] } = read_fractions(file, event);
+    let in_order = a <= b && b <= c && c <= d && d <= denominator;
+    let in_range = (1..=LARGEST_DENOMINATOR).contains(&denominator);
+    let ends_with_zero = file[last_place(event)] == 0;
+    refuse_if(!(in_order && in_range && ends_with_zero), 28, entry_place(event))
 }
 
 /// Refusal 11 over all sixteen terms, then 12.

@@ -1,5 +1,7 @@
 //! Lists of calls: files good and bad, stores and slices at their least length and around it, changed bytes and states.
 
+use super::fraction_damage::faulty_sheet;
+use super::fraction_entries::fractions_beside;
 use super::set_trees::{set_count, set_tree};
 use super::sheet_damage::SHEET_DAMAGES;
 use super::tree_damage::TREE_DAMAGES;
@@ -7,13 +9,18 @@ use super::valid::{any_pair, small_tree, Pair};
 use crate::hex::hex_text;
 use crate::random::Random;
 
-/// Two pairs to choose from, and the store lengths as last set, for pokes inside them.
+/// Two pairs to choose from, what makes a faulty sheet, and the store lengths as last set, for pokes inside them.
 struct Writer<'a> {
     random: &'a mut Random,
     pairs: [Pair; 2],
+    bad_sheet: fn(&mut Random) -> Vec<u8>,
     tree_store: usize,
     sheet_store: usize,
     list: String,
+}
+
+fn any_bad_sheet(random: &mut Random) -> Vec<u8> {
+    random.pick(&SHEET_DAMAGES)(random).sheet
 }
 
 pub fn call_list(random: &mut Random) -> String {
@@ -21,7 +28,19 @@ pub fn call_list(random: &mut Random) -> String {
         let nodes = small_tree(random, 9);
         any_pair(random, nodes)
     });
-    let mut writer = Writer { random, pairs, tree_store: 0, sheet_store: 0, list: String::new() };
+    level_list(Writer::new(random, pairs, any_bad_sheet))
+}
+
+/// The same with fraction entries in every sheet, and with faults of 28.
+pub fn fraction_list(random: &mut Random) -> String {
+    let pairs = [0, 1].map(|_| {
+        let nodes = small_tree(random, 7);
+        fractions_beside(random, nodes)
+    });
+    level_list(Writer::new(random, pairs, faulty_sheet))
+}
+
+fn level_list(mut writer: Writer) -> String {
     if writer.random.percent(80) {
         writer.usual_start();
     }
@@ -38,7 +57,7 @@ const MOST_SETS: u64 = 4_000;
 pub fn set_list(random: &mut Random) -> String {
     let trees = [set_tree(random), small_tree(random, 12)];
     let pairs = trees.map(|nodes| any_pair(random, nodes));
-    let mut writer = Writer { random, pairs, tree_store: 0, sheet_store: 0, list: String::new() };
+    let mut writer = Writer::new(random, pairs, any_bad_sheet);
     if writer.random.percent(80) {
         writer.set_start();
     }
@@ -49,6 +68,10 @@ pub fn set_list(random: &mut Random) -> String {
 }
 
 impl Writer<'_> {
+    fn new(random: &mut Random, pairs: [Pair; 2], bad_sheet: fn(&mut Random) -> Vec<u8>) -> Writer<'_> {
+        Writer { random, pairs, bad_sheet, tree_store: 0, sheet_store: 0, list: String::new() }
+    }
+
     fn line(&mut self, line: String) {
         self.list.push_str(&line);
         self.list.push('\n');
@@ -155,7 +178,7 @@ impl Writer<'_> {
 
     fn hand_in_sheet(&mut self) {
         let sheet = match self.random.below(4) {
-            0 => self.random.pick(&SHEET_DAMAGES)(self.random).sheet,
+            0 => (self.bad_sheet)(self.random),
             _ => self.pair().sheet(),
         };
         self.line(format!("sheet {}", hex_text(&sheet)));

@@ -30,7 +30,7 @@ pub fn changed_input(random: &mut Random) -> Vec<u8> {
     input
 }
 
-fn change_bytes(random: &mut Random, file: &mut Vec<u8>) {
+pub fn change_bytes(random: &mut Random, file: &mut Vec<u8>) {
     if file.is_empty() {
         return;
     }
@@ -89,7 +89,7 @@ fn change_records(random: &mut Random, tree: &mut [u8], nodes: usize) {
     }
 }
 
-fn change_numbers(random: &mut Random, sheet: &mut [u8]) {
+pub fn change_numbers(random: &mut Random, sheet: &mut [u8]) {
     let events = sheet.len().saturating_sub(opinion_sheet::HEADER) / opinion_sheet::ENTRY;
     if events == 0 {
         return;
@@ -99,7 +99,7 @@ fn change_numbers(random: &mut Random, sheet: &mut [u8]) {
 }
 
 /// Two entries change places, or one changes its kind.
-fn change_entries(random: &mut Random, sheet: &mut [u8]) {
+pub fn change_entries(random: &mut Random, sheet: &mut [u8]) {
     let events = sheet.len().saturating_sub(opinion_sheet::HEADER) / opinion_sheet::ENTRY;
     if events == 0 {
         return;

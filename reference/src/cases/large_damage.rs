@@ -3,6 +3,7 @@
 
 use super::case::{input_case, Case, Outcome};
 use super::sheets::{any_four, any_opinions, any_scores};
+use super::spot::{Spot, SPOTS};
 use super::trees::{chain, most_events, random_tree, Shape};
 use super::valid::{any_pair, Pair};
 use crate::bytes::{read_16, write_16, write_32};
@@ -11,27 +12,6 @@ use crate::end::U;
 use crate::opinion_sheet::{self, entry_place, inside_entry, MOST_EXPERTS, SCORES_PLACE};
 use crate::random::Random;
 use crate::tree_file::{self, link_place, record_place, AND, EVENT, MOST_NODES, OR};
-
-/// Which of several places.
-#[derive(Clone, Copy, PartialEq, Eq, Debug)]
-enum Spot {
-    First,
-    Middle,
-    Last,
-}
-
-const SPOTS: [Spot; 3] = [Spot::First, Spot::Middle, Spot::Last];
-
-impl Spot {
-    /// Below `count`, which is above 0.
-    fn of(self, count: usize) -> usize {
-        match self {
-            Spot::First => 0,
-            Spot::Middle => count / 2,
-            Spot::Last => count - 1,
-        }
-    }
-}
 
 /// Damages the pair's tree file; answers the refusal's number and place.
 type TreeFault = fn(&mut Random, &[Node], &mut Vec<u8>, Spot) -> (u32, usize);
@@ -127,7 +107,7 @@ fn sheet_case(random: &mut Random, fault: SheetFault, entry: Spot, expert: Spot)
     let found = fault(random, &pair, &mut sheet, entry, expert);
     let last = entry_place(pair.entries.len() - 1);
     if found.1 < last && sheet.len() > last && random.percent(50) {
-        sheet[last] = 2;
+        sheet[last] = 3;
     }
     input_case(2, &pair.tree(), &sheet, refused(found))
 }
@@ -321,7 +301,7 @@ fn after_last(pair: &Pair, spot: Spot) -> usize {
 
 fn unknown_entry(random: &mut Random, pair: &Pair, sheet: &mut Vec<u8>, entry: Spot, _: Spot) -> (u32, usize) {
     let place = entry_place(entry.of(pair.entries.len()));
-    sheet[place] = random.between(2, 255) as u8;
+    sheet[place] = random.between(3, 255) as u8;
     (6, place)
 }
 

@@ -1,6 +1,7 @@
 //! Generated cases: inputs of the level printer, lists of calls, and tree files.
 
 pub mod case;
+pub mod spot;
 pub mod trees;
 pub mod sheets;
 pub mod valid;
@@ -12,8 +13,13 @@ pub mod pair_damage;
 pub mod damaged;
 pub mod large_damage;
 pub mod changed;
+pub mod fraction_entries;
+pub mod fraction_damage;
+pub mod fraction_limits;
+pub mod fractions;
 pub mod call_lists;
 pub mod vector_list;
+pub mod fraction_vectors;
 
 use crate::random::Random;
 
@@ -37,9 +43,11 @@ pub enum Kind {
     Trees,
     /// One known fault each in the largest trees and sheets, at the first, middle and last places.
     Large,
+    /// Sheets with fraction entries: limits, faults, answered inputs and blind changes in turn.
+    Fractions,
 }
 
-pub const KINDS: [(&str, Kind); 9] = [
+pub const KINDS: [(&str, Kind); 10] = [
     ("valid", Kind::Valid),
     ("limits", Kind::Limits),
     ("damaged", Kind::Damaged),
@@ -49,6 +57,7 @@ pub const KINDS: [(&str, Kind); 9] = [
     ("sets", Kind::Sets),
     ("trees", Kind::Trees),
     ("large", Kind::Large),
+    ("fractions", Kind::Fractions),
 ];
 
 pub fn parse_kind(word: &str) -> Option<Kind> {
@@ -72,6 +81,7 @@ pub fn write_case(kind: Kind, seed: u64, index: u64) -> Vec<u8> {
         Kind::Trees => set_trees::tree_case(random, index),
         Kind::Mixed => mixed_case(random, index),
         Kind::Large => large_damage::large_case(random, index).bytes,
+        Kind::Fractions => fractions::fraction_case(random, index),
     }
 }
 

@@ -81,8 +81,10 @@ fn tree_before_sheet(random: &mut Random) -> Case {
     input_case(2, &tree, &sheet, outcome)
 }
 
+/// Where the sheet happens to be acceptable, the level is named.
 fn sheet_before_level(random: &mut Random) -> Case {
     let DamagedSheet { pair, sheet, outcome } = random.pick(&SHEET_DAMAGES)(random);
+    let outcome = if outcome == Outcome::Answered { Outcome::Refused(13, 0) } else { outcome };
     input_case(bad_level(random), &pair.tree(), &sheet, outcome)
 }
 

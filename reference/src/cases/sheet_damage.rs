@@ -187,12 +187,30 @@ fn expert_less(random: &mut Random) -> DamagedSheet {
     damaged(pair, sheet, 7, place)
 }
 
+/// Kind 2 among them, over bytes of another kind.
 fn unknown_kind(random: &mut Random) -> DamagedSheet {
     let pair = base(random);
     let mut sheet = pair.sheet();
-    let place = entry_place(random.below(pair.entries.len()));
-    sheet[place] = random.between(2, 255) as u8;
-    damaged(pair, sheet, 6, place)
+    let event = random.below(pair.entries.len());
+    sheet[entry_place(event)] = random.between(2, 255) as u8;
+    match fault_of_kind(&sheet, event) {
+        Some(number) => damaged(pair, sheet, number, entry_place(event)),
+        None => DamagedSheet { pair, sheet, outcome: Outcome::Answered },
+    }
+}
+
+/// The refusal of an entry whose kind of 2 or above was written over another, if there is one: seldom its sixteen bytes
+/// are fractions.
+fn fault_of_kind(sheet: &[u8], event: usize) -> Option<u32> {
+    let entry = &sheet[entry_place(event)..entry_place(event + 1)];
+    if entry[0] != FRACTIONS {
+        return Some(6);
+    }
+    let number = |first: usize| (0..3).map(|byte| (entry[first + byte] as u32) << (8 * byte)).sum::<u32>();
+    let [denominator, a, b, c, d] = [1, 4, 7, 10, 13].map(number);
+    let rising = [a, b, c, d, denominator].is_sorted();
+    let in_range = denominator != 0 && denominator <= 1_000_000;
+    (!rising || !in_range || entry[16] != 0).then_some(28)
 }
 
 /// Four rising numbers of which two neighbours change places.
@@ -273,14 +291,16 @@ fn no_experts(random: &mut Random) -> DamagedSheet {
     damaged(pair, sheet, number, place)
 }
 
-/// An unknown kind in one entry and nobody in another: the first entry is named.
+/// Kind 2 over the bytes of one entry and nobody in another: the first that is at fault is named.
 fn two_entries(random: &mut Random) -> DamagedSheet {
     let mut pair = base(random);
     let silent = random.below(pair.entries.len());
     let unknown = random.below(pair.entries.len());
     pair.entries[silent] = Entry::Opinions(vec![]);
     let mut sheet = pair.sheet();
-    sheet[entry_place(unknown)] = 2;
-    let number = if unknown <= silent { 6 } else { 12 };
-    damaged(pair, sheet, number, entry_place(unknown.min(silent)))
+    sheet[entry_place(unknown)] = FRACTIONS;
+    match fault_of_kind(&sheet, unknown) {
+        Some(number) if unknown <= silent => damaged(pair, sheet, number, entry_place(unknown)),
+        _ => damaged(pair, sheet, 12, entry_place(silent)),
+    }
 }

@@ -32,7 +32,7 @@ impl Pair {
 }
 
 /// Shapes and styles are of different number, so that their turns meet in every combination.
-const SHAPES: u64 = 7;
+pub const SHAPES: u64 = 7;
 const STYLES: u64 = 8;
 
 pub fn valid_case(random: &mut Random, index: u64) -> Case {
@@ -42,7 +42,7 @@ pub fn valid_case(random: &mut Random, index: u64) -> Case {
     pair.answered(n)
 }
 
-fn shaped_tree(random: &mut Random, shape: u64) -> Vec<Node> {
+pub fn shaped_tree(random: &mut Random, shape: u64) -> Vec<Node> {
     match shape {
         0 => vec![Node::Event],
         1 => {

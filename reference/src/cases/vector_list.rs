@@ -1,6 +1,6 @@
 //! The stored list of calls that crates/vectors runs: document 01's table, each limit and one past it, each refusal
 //! with what is left after it, changed stores and states, many questions on one pair, and generated lists; then the
-//! same for minimal cut sets.
+//! same for minimal cut sets, and for fraction entries.
 
 use super::call_lists::{call_list, set_list};
 use super::changed::changed_input;
@@ -23,11 +23,11 @@ use crate::random::Random;
 use crate::tree_file;
 use crate::vectors::SET_ROOM;
 
-const SEED: u64 = 2_026;
+pub(super) const SEED: u64 = 2_026;
 
-struct List {
-    random: Random,
-    calls: Vec<Call>,
+pub(super) struct List {
+    pub(super) random: Random,
+    pub(super) calls: Vec<Call>,
 }
 
 pub fn vector_list() -> Vec<Call> {
@@ -47,6 +47,7 @@ pub fn vector_list() -> Vec<Call> {
     list.set_refusals();
     list.set_changes();
     list.generated_sets();
+    list.fraction_entries();
     list.calls
 }
 
@@ -69,7 +70,7 @@ impl List {
     }
 
     /// Empty stores, then stores of these lengths, and nothing held.
-    fn fresh(&mut self, tree_store: usize, sheet_store: usize) {
+    pub(super) fn fresh(&mut self, tree_store: usize, sheet_store: usize) {
         self.calls.push(Call::Stores(0, 0));
         self.calls.push(Call::Stores(tree_store, sheet_store));
         self.held(0, 0);
@@ -81,20 +82,20 @@ impl List {
     }
 
     /// Both files handed in to stores with a few bytes to spare.
-    fn holding(&mut self, tree: &[u8], sheet: &[u8]) {
+    pub(super) fn holding(&mut self, tree: &[u8], sheet: &[u8]) {
         self.fresh(tree.len() + 2, sheet.len() + 3);
         self.hand_in(tree, sheet);
     }
 
-    fn holding_pair(&mut self, pair: &Pair) {
+    pub(super) fn holding_pair(&mut self, pair: &Pair) {
         self.holding(&pair.tree(), &pair.sheet());
     }
 
-    fn judge(&mut self, k: u32, n: u32) {
+    pub(super) fn judge(&mut self, k: u32, n: u32) {
         self.calls.push(Call::Judge(Level { k, n }));
     }
 
-    fn question(&mut self, k: u32, n: u32, places: usize) {
+    pub(super) fn question(&mut self, k: u32, n: u32, places: usize) {
         self.calls.push(Call::Question(Level { k, n }, [places; 3]));
     }
 

@@ -1,8 +1,9 @@
-//! Three systems to run, each as a tree file and an opinion sheet.
+//! Four systems to run, each as a tree file and an opinion sheet.
 
 pub mod road_trip;
 pub mod container_seal;
 pub mod fuel_supply;
+pub mod cooling_pumps;
 
 use crate::describe::{sheet_bytes, tree_bytes, Entry, Node};
 
@@ -23,13 +24,14 @@ impl Example {
     }
 }
 
-pub const NAMES: [&str; 3] = ["road_trip", "container_seal", "fuel_supply"];
+pub const NAMES: [&str; 4] = ["road_trip", "container_seal", "fuel_supply", "cooling_pumps"];
 
 pub fn example(name: &str) -> Option<Example> {
     match name {
         "road_trip" => Some(road_trip::road_trip()),
         "container_seal" => Some(container_seal::container_seal()),
         "fuel_supply" => Some(fuel_supply::fuel_supply()),
+        "cooling_pumps" => Some(cooling_pumps::cooling_pumps()),
         _ => None,
     }
 }

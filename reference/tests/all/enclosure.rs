@@ -3,8 +3,10 @@
 use crate::desk::{fresh_work, holding, Work};
 use crate::exact::{bottom_up, cut, events_beneath, fraction, Cut, Fraction};
 use crate::whole::Whole;
+use reference::cases::fraction_entries::{fractions_alone, fractions_beside, lively_fractions};
 use reference::cases::sheets::{any_entries, any_scores, lively_entries};
 use reference::cases::trees::{chain, comb, count_events, most_events, random_tree, Shape};
+use reference::cases::valid::Pair;
 use reference::describe::{same, Entry, Node};
 use reference::random::Random;
 use std::cmp::Ordering;
@@ -64,15 +66,24 @@ fn check_containment(nodes: &[Node], cuts: &[Cut], work: &Work, random: &mut Ran
     assert!(probability.compare(&upper) != Ordering::Greater);
 }
 
+/// Three levels of one n.
+fn check_levels(nodes: &[Node], scores: &[u8], entries: &[Entry], random: &mut Random) {
+    let n = *random.pick(&[1, 2, 3, 7, 10, 1_000]);
+    for _ in 0..3 {
+        let k = random.between(0, n) as u32;
+        check_level(nodes, scores, entries, k, n as u32, random);
+    }
+}
+
 fn check_tree(nodes: &[Node], random: &mut Random) {
     let experts = random.below(17);
     let scores = any_scores(random, experts);
     let entries = any_entries(random, experts, count_events(nodes));
-    let n = *random.pick(&[1, 2, 3, 7, 10, 1_000]);
-    for _ in 0..3 {
-        let k = random.between(0, n) as u32;
-        check_level(nodes, &scores, &entries, k, n as u32, random);
-    }
+    check_levels(nodes, &scores, &entries, random);
+}
+
+fn check_pair(pair: &Pair, random: &mut Random) {
+    check_levels(&pair.nodes, &pair.scores, &pair.entries, random);
 }
 
 #[test]
@@ -118,6 +129,31 @@ fn largest_trees() {
         check_level(&nodes, &scores, &lively, 2, 3, random);
         let any = any_entries(random, 3, count_events(&nodes));
         check_level(&nodes, &scores, &any, 1, 3, random);
+    }
+}
+
+/// Fractions alone and beside the other kinds, under gates and as the only node.
+#[test]
+fn small_trees_of_fractions() {
+    for index in 0..1_000 {
+        let random = &mut Random::for_case(67, index);
+        let shape = Shape { nodes: random.between(1, 14), event_share: random.between(30, 90), widest: 16 };
+        let nodes = random_tree(random, shape);
+        let alone = fractions_alone(random, nodes.clone());
+        check_pair(&alone, random);
+        let beside = fractions_beside(random, nodes);
+        check_pair(&beside, random);
+    }
+}
+
+#[test]
+fn large_trees_of_fractions() {
+    let random = &mut Random::for_case(71, 0);
+    for nodes in [most_events(random, 1_024), comb(random, 512), chain(random, 1_024)] {
+        let lively = lively_fractions(random, nodes.clone(), 0);
+        check_level(&nodes, &lively.scores, &lively.entries, 1, 3, random);
+        let beside = fractions_beside(random, nodes);
+        check_level(&beside.nodes, &beside.scores, &beside.entries, 2, 3, random);
     }
 }
 

@@ -22,6 +22,7 @@ pub fn cut(scores: &[u8], entry: &Entry, k: u32, n: u32) -> Cut {
     let ([a, b, c, d], denominator) = match entry {
         Entry::Four(numbers) => (numbers.map(u128::from), 1_000_000_000),
         Entry::Opinions(terms) => mean(scores, terms),
+        Entry::Fractions { denominator, numerators, .. } => (numerators.map(u128::from), *denominator as u128),
     };
     let (k, n) = (k as u128, n as u128);
     Cut { lower: a * n + (b - a) * k, upper: d * n - (d - c) * k, denominator: denominator * n }

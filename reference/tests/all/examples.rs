@@ -1,8 +1,9 @@
-//! The three examples are accepted, have the numbers of their sources, and are what the folder examples/ holds.
+//! The four examples are accepted, have the numbers of their sources, and are what the folder examples/ holds.
 
-use crate::desk::{exact, holding};
+use crate::desk::{exact, holding, unmarked};
 use reference::cases::trees::count_events;
 use reference::describe::Node;
+use reference::end::End;
 use reference::examples::{example, Example, NAMES};
 use reference::levels::{print_levels, printer_input};
 use std::fs;
@@ -101,4 +102,24 @@ fn fuel_supply_has_p11() {
     let top = pump.answer(2, 2).unwrap();
     assert_eq!((bottom.lower.units, bottom.upper.units), (624_838_709, 818_387_097));
     assert_eq!((top.lower.units, top.upper.units), (723_548_387, 723_548_388));
+}
+
+/// An event alone at level 0 and at the highest: its lower and upper end at each.
+fn event_ends(example: &Example, event: usize) -> [End; 4] {
+    let desk = holding(&[Node::Event], &example.scores, &example.entries[event..=event]);
+    let (bottom, top) = (desk.answer(0, 1).unwrap(), desk.answer(1, 1).unwrap());
+    [bottom.lower, bottom.upper, top.lower, top.upper]
+}
+
+/// By hand: 1, 3 and 6 of 1,250 are 0.0008, 0.0024 and 0.0048; 1, 2 and 5 of 730 are 0.00136986301.., 0.00273972602..
+/// and 0.00684931506..; opinions of 10 and 5 Low and 7 Very Low have 341 / 22 = 15.5 hundredths as d.
+#[test]
+fn cooling_pumps_has_makers_figures_beside_opinions() {
+    let example = example("cooling_pumps").unwrap();
+    let pump = event_ends(&example, 1);
+    assert_eq!(pump, [exact(800_000), exact(4_800_000), exact(2_400_000), exact(2_400_000)]);
+    let valve = event_ends(&example, 2);
+    assert_eq!(valve, [1_369_863, 6_849_316, 2_739_726, 2_739_727].map(unmarked));
+    assert_eq!(event_ends(&example, 0)[1], exact(155_000_000));
+    assert_eq!(event_ends(&example, 5)[0], exact(50_000));
 }

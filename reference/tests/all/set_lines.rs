@@ -2,7 +2,7 @@
 
 use reference::cases::set_trees::{and_of_ors, two_levels, under_gates};
 use reference::describe::{tree_bytes, Node};
-use reference::examples::{container_seal::container_seal, fuel_supply::fuel_supply};
+use reference::examples::{container_seal::container_seal, cooling_pumps::cooling_pumps, fuel_supply::fuel_supply};
 use reference::random::Random;
 use reference::set_lines::print_sets;
 
@@ -25,6 +25,8 @@ fn by_hand() {
     let fuel = print_sets(&fuel_supply().tree());
     assert_eq!(sorted(&fuel), ["tree 3 events 7 cut sets 6", "0 1", "0 2", "0 3", "0 4", "0 5", "0 6"]);
     assert!(print_sets(&container_seal().tree()).contains(" cut sets 5\n"));
+    let cooling = print_sets(&cooling_pumps().tree());
+    assert_eq!(sorted(&cooling), ["tree 4 events 6 cut sets 4", "0 1", "0 2 3", "4", "5"]);
 }
 
 #[test]

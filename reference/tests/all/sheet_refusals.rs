@@ -70,7 +70,7 @@ fn r5_length() {
 #[test]
 fn r6_unknown_kind() {
     for place in [26, 43] {
-        for kind in [2, 3, 255] {
+        for kind in [3, 4, 128, 255] {
             check(&with_byte(sample(), place, kind), 6, place);
         }
     }

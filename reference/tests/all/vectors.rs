@@ -87,11 +87,15 @@ fn streams_that_are_none() {
 fn every_answer() {
     let mut desk = Desk::new(Form::Short);
     let text: String = vector_list().iter().map(|call| desk.run(call).unwrap()).collect();
-    for number in (1..=13).chain(20..=27) {
+    for number in (1..=13).chain(20..=28) {
         assert!(text.contains(&format!("refused {number} at ")), "{number}");
     }
     let answers = ["\naccepted\n", "\ndropped\n", "\nnodes 5 events 3\n", "\nrefused 23 at 1\n"];
     for answer in answers.into_iter().chain(["\ncut sets 1\n", "\ncut sets 4294967296\n", "\ncut sets 13947137604\n"]) {
+        assert!(text.contains(answer), "{answer:?}");
+    }
+    let thirds = "\nlower 333333333 ~ upper 333333334 ~ events 1\n";
+    for answer in ["\nlower 2400000 = upper 2400000 = events 1\n", thirds, "\nrefused 28 at 17417\n"] {
         assert!(text.contains(answer), "{answer:?}");
     }
 }
