@@ -1,6 +1,6 @@
 -- What is wrong with a sheet: `Breaks file r` says that the file breaks that rule at that place. One clause for each
--- rule of document 01's list, 1 to 7 and 10 to 12, and of 28, and no order among them. Judging finds the first of them in
--- document 01's order, and nothing exactly where none is broken: `first-broken` of proofs/Broken.
+-- rule, 1 to 7 and 10 to 12 of document 01's list and 28 of document 02, and no order among them. Judging finds the
+-- first of them in document 01's order, and nothing exactly where none is broken: `first-broken` of proofs/Broken.
 --
 -- A clause says what must be there to be spoken of: the header's fields, the scores among them, in a file as long as a
 -- header; entries where the header, and the length with it, is well-formed.
@@ -15,8 +15,8 @@ use Rattle.refusals.specs.declared.rule.Rule.the-variants as rule
 use Rattle.opinion_sheet.specs.Format.{header-length, letters-place, version-place, events-place, experts-place}
 use Rattle.opinion_sheet.specs.Format.{scores-place, has-letters, version, version-read, event-count, max-events}
 use Rattle.opinion_sheet.specs.Format.{expert-count, expert-places, required-length, score, max-score, entry-at}
-use Rattle.opinion_sheet.specs.Format.{kind, numbers-kind, opinions-kind, fractions-kind, terms-at, term, max-term}
-use Rattle.opinion_sheet.specs.Format.{unit}
+use Rattle.opinion_sheet.specs.Format.{kind, numbers-kind, opinions-kind, fractions-kind, terms-at, term}
+use Rattle.opinion_sheet.specs.Format.{max-term, unit}
 use Rattle.opinion_sheet.specs.EntryRules.{numbers-of, fractions-of, last-byte}
 use Rattle.opinion_sheet.specs.WellFormed.{WellFormedHeader, WellFormedNumbers, WellFormedFractions}
 
@@ -72,8 +72,8 @@ pub data Breaks (file : List ℕ) : Refusal → Type 0 where
   nobody-spoke : WellFormedHeader file → (e : ℕ) → e < event-count file → kind file e ≡ opinions-kind
       → ((i : ℕ) → i < expert-count file → term file (terms-at file e) i ≡ 0)
       → Breaks file (refusal rule.NobodySpoke (entry-at file e))
-  -- 28: fractions that are not a ≤ b ≤ c ≤ d ≤ denominator, a denominator that is not 1 to 1,000,000, or a last byte that
-  -- is not 0; the entry's place
+  -- 28: numerators that are not a ≤ b ≤ c ≤ d ≤ denominator, a denominator out of range, or a last byte that is not 0;
+  -- the entry's place
   wrong-fractions : WellFormedHeader file → (e : ℕ) → e < event-count file → kind file e ≡ fractions-kind
       → (WellFormedFractions (fractions-of file (entry-at file e)) (last-byte file (entry-at file e)) → ⊥)
       → Breaks file (refusal rule.WrongFractions (entry-at file e))

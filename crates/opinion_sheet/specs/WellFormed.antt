@@ -1,5 +1,6 @@
--- The rules of document 01's section "The opinion sheet" and of document 02's request 2, each by itself and in no order.
--- `judged` accepts exactly the well-formed files (`accepted-well-formed` and `well-formed-accepted` of proofs/Accepted).
+-- The rules of document 01's section "The opinion sheet" and of document 02's request 2, each by itself and in no
+-- order. `judged` accepts exactly the well-formed files (`accepted-well-formed` and `well-formed-accepted` of
+-- proofs/Accepted).
 use Prim.Native.Nat.{ℕ, _≤_, _<_}
 use mathlib.Core.Path.{_≡_}
 use mathlib.Core.Bool.{true}

@@ -1,4 +1,4 @@
--- `opinion_sheet::fractions::judge_fractions` meets its contract: the test is the rule on the fractions and the byte read.
+-- `opinion_sheet::fractions::judge_fractions` meets its contract: the test is the rule on what was read.
 use mathlib.Core.Path.{_≡_, sym, _∙_}
 use denote.Ref.{now}
 use borrow.Author.Needs.{needs}
