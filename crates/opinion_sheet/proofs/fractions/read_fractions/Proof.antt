@@ -35,13 +35,13 @@ field24-at-requires-5 c κs = search needs
 
 returns : tie.Need-returns
 returns c =
-    rw (
-      c .before .before .before .before .field24-at .ensures,
-      c .before .before .before .field24-at2 .ensures,
-      c .before .before .field24-at3 .ensures,
-      c .before .field24-at4 .ensures,
-      c .field24-at5 .ensures,
-    )
+    λ i. record {
+      den = c .before .before .before .before .field24-at .ensures i;
+      a = c .before .before .before .field24-at2 .ensures i;
+      b = c .before .before .field24-at3 .ensures i;
+      c = c .before .field24-at4 .ensures i;
+      d = c .field24-at5 .ensures i;
+    }
 
 pub read-fractions-spec : {M : Type 1} → statement M
 read-fractions-spec =
