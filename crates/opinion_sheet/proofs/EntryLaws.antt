@@ -49,9 +49,9 @@ module _ (x : Fractions) (last : ℕ) where
   pub fractions-say : fractions-rule x last ≡ true → WellFormedFractions x last
   fractions-say h =
       let rising = numbers-rule (x .den) (numerators x) in
-      let known = within 1 1000000 (x .den) in
-      let all = both-hold (rising && known) (eqb last 0) h in
-      let over = both-hold rising known (all .0) in
+      let in-range = within 1 1000000 (x .den) in
+      let all = both-hold (rising && in-range) (eqb last 0) h in
+      let over = both-hold rising in-range (all .0) in
       let den = within-says 1 1000000 (x .den) (over .1) in
       record {
         den-least = den .0;

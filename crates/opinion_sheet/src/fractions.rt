@@ -38,8 +38,8 @@ pub fn fractions_rule(x: Fractions, last: usize) -> bool
     ensures { λ r. ⌜ r ≡ fractions-rule x last ⌝ }
 {
     let rising = (x.a <= x.b) & (x.b <= x.c) & (x.c <= x.d) & (x.d <= x.den);
-    let known = (1 <= x.den) & (x.den <= MAX_DENOMINATOR);
-    rising & known & (last == 0)
+    let in_range = (1 <= x.den) & (x.den <= MAX_DENOMINATOR);
+    rising & in_range & (last == 0)
 }
 
 // The fault of the fraction entry at a place, which is the same whatever is wrong with it.
