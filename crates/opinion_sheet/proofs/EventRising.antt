@@ -8,12 +8,13 @@ use Rattle.theory.specs.Trapezoid.{Trapezoid, Rising}
 use Rattle.theory.specs.Opinion.{mean, spoken}
 use Rattle.theory.proofs.MeanRising.{mean-rising}
 use Rattle.opinion_sheet.specs.Format.{event-count, expert-count, unit}
-use Rattle.opinion_sheet.specs.EntryRules.{entry-of}
+use Rattle.opinion_sheet.specs.EntryRules.{entry-of, numerators}
 use Rattle.opinion_sheet.specs.WellFormed.{WellFormed, WellFormedScores, WellFormedOpinions, WellFormedEntry}
-use Rattle.opinion_sheet.specs.WellFormed.{WellFormedFractions}
+use Rattle.opinion_sheet.specs.WellFormed.{WellFormedNumbers, WellFormedFractions}
 use Rattle.opinion_sheet.specs.Opinion.{opinions-among}
-use Rattle.opinion_sheet.specs.EventCut.{fractions-trapezoid, entry-trapezoid, event-trapezoid}
+use Rattle.opinion_sheet.specs.EventCut.{numbers-trapezoid, fractions-trapezoid, entry-trapezoid, event-trapezoid}
 use Rattle.opinion_sheet.specs.Requirements.{Cuttable}
+use Rattle.opinion_sheet.specs.declared.entry.Numbers.{Numbers}
 use Rattle.opinion_sheet.specs.declared.fractions.Fractions.{Fractions}
 use Rattle.opinion_sheet.specs.declared.entry.Entry.{Entry}
 use Rattle.opinion_sheet.specs.declared.entry.Entry.the-variants as entry
@@ -33,16 +34,14 @@ rising-cuttable U units x rising most =
       den-bounded = most;
     }
 
+-- Four numbers in units of which U make 1 rise to at most 1.
+numbers-rising : (U : ℕ) → 0 < U → (x : Numbers) → WellFormedNumbers U x → Rising (numbers-trapezoid U x)
+numbers-rising U units x w =
+    record { a-b = w .a-b; b-c = w .b-c; c-d = w .c-d; d-den = w .d-unit; positive = units }
+
 -- The fractions of a well-formed entry rise, and can be cut.
 fractions-rising : (x : Fractions) (last : ℕ) → WellFormedFractions x last → Rising (fractions-trapezoid x)
-fractions-rising x last w =
-    record {
-      a-b = w .rising .a-b;
-      b-c = w .rising .b-c;
-      c-d = w .rising .c-d;
-      d-den = w .rising .d-unit;
-      positive = w .den-least;
-    }
+fractions-rising x last w = numbers-rising (x .den) (w .den-least) (numerators x) (w .rising)
 
 pub fractions-cuttable : (U : ℕ) → 0 < U → (x : Fractions) (last : ℕ) → WellFormedFractions x last
     → Cuttable U U (fractions-trapezoid x)
@@ -76,15 +75,7 @@ module _ (file : List ℕ) (U : ℕ) (units : 0 < U) (scores : WellFormedScores 
   entry-rising e w = go (entry-of file e) refl
     where
       go : (read : Entry) → entry-of file e ≡ read → Rising (entry-trapezoid U file read)
-      go (entry.Numbers x) h =
-          let numbers = entry-numbers file U e w h in
-          record {
-            a-b = numbers .a-b;
-            b-c = numbers .b-c;
-            c-d = numbers .c-d;
-            d-den = numbers .d-unit;
-            positive = units;
-          }
+      go (entry.Numbers x) h = numbers-rising U units x (entry-numbers file U e w h)
       go (entry.Opinions terms) h = opinions-rising terms (entry-opinions file U e w h .1)
       go (entry.Fractions x) h = fractions-rising x _ (entry-fractions file U e w h)
 
