@@ -6,7 +6,7 @@ use native.Mathlib.Omega.{arith}
 use Rattle.theory.specs.FaultTree.{GateKind, all, any}
 use Rattle.theory.specs.Rounding.{Direction, End, start, end-complement, step}
 use Rattle.theory.specs.GateFold.{seen, turned, folded}
-use Rattle.theory.proofs.RoundingMeaning.{rounded-at-most}
+use Rattle.theory.proofs.Rescaled.{rescaled-at-most}
 use Rattle.tree_file.specs.Format.{linked}
 use Rattle.evaluation.specs.Phases.{fold-end}
 
@@ -23,7 +23,7 @@ module _ (U : ℕ) (positive : 0 < U) where
   unfolding start step
   folded-at-most w f zero h = le-refl U
   folded-at-most w f (suc m) h =
-      rounded-at-most w _ U U positive
+      rescaled-at-most U w _ U positive
       (mul-le-mul (folded-at-most w f m (λ j l. h j (omega arith))) (h (0 + m) (omega arith)))
 
   -- a gate's end

@@ -1,42 +1,32 @@
 -- What the fold of a gate asks and what it answers, by the links as they were lent.
-use Prim.Native.Nat.{ℕ, suc, _<_}
-use mathlib.Core.Path.{_≡_, refl, sym, ap, ap₂, _∙_}
+use Prim.Native.Nat.{ℕ, suc}
+use mathlib.Core.Path.{_≡_, refl, sym, ap, _∙_}
 use mathlib.Core.List.{List}
 use native.Mathlib.Omega.{arith}
-use lib.ListN.{length}
-use Rattle.theory.specs.Rounding.{down, up}
-use Rattle.tree_file.specs.Format.{linked, links-from}
+use Rattle.tree_file.specs.Format.{links-from}
 use Rattle.tree_file.specs.NodeTable.{kind-as, read-node}
 use Rattle.tree_file.specs.declared.node.Gate.{Gate}
 use Rattle.tree_file.specs.declared.node.Node.{Node}
 use Rattle.tree_file.specs.declared.node.Node.the-variants as node
-use Rattle.tree_file.proofs.Nodes.{link-inside, link-below, links-inside}
-use Rattle.rounding.specs.Ends.{as-code}
-use Rattle.rounding.specs.declared.end.End.{End}
+use Rattle.tree_file.proofs.Nodes.{inputs-least, link-inside, link-below, links-inside}
+use Rattle.rounding.specs.Ends.{enclosure}
 use Rattle.rounding.specs.declared.end.Enclosure.{Enclosure}
-use Rattle.evaluation.specs.Slices.{Slices, slices, Part, ends, mark-bytes, slice, end-at, Long, put}
+use Rattle.evaluation.specs.Slices.{Slices, stored-end, Long, put}
 use Rattle.evaluation.specs.Phases.{fold-end, gate-enclosure, gate-put}
 use Rattle.evaluation.specs.Requirements.{Inputs-stored, Gate-stored, Gate-asked}
-use Rattle.evaluation.proofs.Places.{long-part, same-long}
+use Rattle.evaluation.proofs.Places.{same-long}
 
-module _ {U : ℕ} {tree : List ℕ} {g : Gate} {lower upper marks : List ℕ}
-    (stored : Gate-stored U tree g (slices lower upper marks)) {links : List ℕ}
-    (part : links ≡ links-from tree (g .first))
+module _ (U : ℕ) (tree : List ℕ) (g : Gate) (s : Slices) {links : List ℕ} (part : links ≡ links-from tree (g .first))
   where
-    -- what the fold asks for the lower end
-    pub lower-asked : Inputs-stored U links (g .inputs) lower marks
-    lower-asked = rw part (stored .inputs-stored down)
+    -- what the fold asks
+    pub inputs-asked : Gate-stored U tree g s → Inputs-stored U links (g .inputs) s
+    inputs-asked stored = rw part (stored .inputs-stored)
 
-    -- what it asks for the upper end
-    pub upper-asked : Inputs-stored U links (g .inputs) upper marks
-    upper-asked = rw part (stored .inputs-stored up)
-
-    -- both ends, as the fold answers them
-    pub enclosure-made : {low high : End}
-        → low ≡ as-code (fold-end U down (kind-as (g .kind)) links (g .inputs) (end-at down lower marks))
-        → high ≡ as-code (fold-end U up (kind-as (g .kind)) links (g .inputs) (end-at up upper marks))
-        → record { lower = low; upper = high } ≡ gate-enclosure U tree g (slices lower upper marks)
-    enclosure-made l h = ap₂ (λ (a b : End). record { lower = a; upper = b }) (rw part at l) (rw part at h)
+    -- what it answers
+    pub enclosure-made : {x : Enclosure}
+        → x ≡ enclosure (λ w. fold-end U w (kind-as (g .kind)) links (g .inputs) (stored-end w s))
+        → x ≡ gate-enclosure U tree g s
+    enclosure-made e = rw part at e
 
 module _ {U : ℕ} {tree : List ℕ} {i : ℕ} {s : Slices} (asked : Gate-asked U tree i s) where
   -- node i has its place
@@ -57,18 +47,17 @@ module _ {U : ℕ} {tree : List ℕ} {i : ℕ} {s : Slices} (asked : Gate-asked 
           record {
             well-formed = asked .well-formed;
             first-inside = omega (arith, inside);
-            inputs-stored = λ w. record {
-              has-link = link-inside tree (asked .well-formed) i (asked .inside) g is;
-              has-value = λ j l. placed (ends w) j l;
-              has-mark = λ j l. placed mark-bytes j l;
-              in-units = asked .in-units w g is;
+            inputs-stored = record {
+              some-input = inputs-least tree (asked .well-formed) i (asked .inside) g is;
+              input-stored = λ j l. record {
+                has-link = link-inside tree (asked .well-formed) i (asked .inside) g is j l;
+                has-place =
+                    let below = link-below tree (asked .well-formed) i (asked .inside) g is j l in
+                    same-long (λ p. refl) (omega (arith, below, asked .inside)) (asked .long);
+                in-units = λ w. asked .in-units w g is j l;
+              };
             };
           }
-        where
-          placed : (p : Part) (j : ℕ) → j < g .inputs → linked (links-from tree (g .first)) j < length (slice p s)
-          placed p j l =
-              let below = link-below tree (asked .well-formed) i (asked .inside) g (sym e ∙ q) j l in
-              omega (arith, below, asked .inside, long-part (asked .long) p)
 
       -- its ends are put to its place
       pub gate-ends-put : {ends : Enclosure} → ends ≡ gate-enclosure U tree g s → {after : Slices}

@@ -1,77 +1,102 @@
--- One turn of a gate's fold: the running end after one input more.
-use Prim.Native.Nat.{ℕ, _+_, _≤_, _<_}
-use mathlib.Core.Path.{_≡_, refl, ap, _∙_}
-use mathlib.Core.Bool.{Bool, true}
+-- One turn of a gate's fold: the running interval after one input more.
+use Prim.Native.Nat.{ℕ, suc, _+_, _≤_, _<_}
+use mathlib.Core.Path.{_≡_, refl, sym, ap, _∙_}
 use mathlib.Core.List.{List}
-use native.Mathlib.Nat.{zero-add, le-refl}
+use native.Mathlib.Nat.{zero-add}
 use native.Mathlib.Numerals.{add-one}
 use native.Mathlib.Omega.{arith}
-use lib.ListN.{length, getD}
 use Rattle.theory.specs.FaultTree.{GateKind}
-use Rattle.theory.specs.Rounding.{Direction, End, start, step}
-use Rattle.theory.specs.GateFold.{seen, turned, folded}
+use Rattle.theory.specs.Rounding.{Direction, down, up, End, step}
+use Rattle.theory.specs.GateFold.{seen, turned, both-seen, folded}
+use Rattle.theory.proofs.Rounded.{step-from-start}
 use Rattle.fields.specs.Fields.{Is16}
 use Rattle.tree_file.specs.Format.{linked}
-use Rattle.rounding.specs.Marks.{exact-in}
-use Rattle.rounding.specs.Ends.{way, as-theory, as-code, InUnits}
-use Rattle.rounding.specs.declared.direction.Direction.{Direction as Code-direction}
-use Rattle.rounding.specs.declared.end.End.{End as Code-end}
-use Rattle.evaluation.specs.Slices.{end-at}
+use Rattle.rounding.specs.Ends.{enclosure, end-in, BothInUnits}
+use Rattle.rounding.specs.declared.end.Enclosure.{Enclosure}
+use Rattle.rounding.proofs.Marks.{end-in-enclosure}
+use Rattle.evaluation.specs.Slices.{Slices, stored-end, Long}
 use Rattle.evaluation.specs.Phases.{fold-end}
-use Rattle.evaluation.specs.Requirements.{Inputs-stored}
+use Rattle.evaluation.specs.Requirements.{Input-stored}
+use Rattle.evaluation.proofs.BothEnds.{same-ends, turned-twice}
 
--- an end as it is read
-pub end-read : (w : Direction) (values marks : List ℕ) (i : ℕ) (m : Bool) → m ≡ exact-in w (getD marks i 0)
-    → record { value = getD values i 0; exact = m } ≡ as-code (end-at w values marks i)
-end-read w values marks i m e = ap (λ (m : Bool). record { value = getD values i 0; exact = m }) e
-
-module _ {U : ℕ} {links : List ℕ} {inputs : ℕ} {values marks : List ℕ} (s : Inputs-stored U links inputs values marks)
-    {j node : ℕ} (l : j < inputs) (n : Is16 node (linked links j)) where
+module _ {U : ℕ} {links : List ℕ} {j : ℕ} {s : Slices} (stored : Input-stored U links j s) {node : ℕ}
+    (n : Is16 node (linked links j)) where
   -- the node that link j names has its place
-  pub input-stored : (node < length values) × (node < length marks)
-  input-stored = rw (n .value) (s .has-value j l, s .has-mark j l)
+  pub node-placed : Long (suc node) s
+  node-placed = rw (n .value) (stored .has-place)
 
-  -- its end is at most U
-  pub input-in-units : (w : Direction) {x : Code-end} → x ≡ as-code (end-at w values marks node) → InUnits U x
-  input-in-units w e = rw (e, n .value) (record { at-most = s .in-units j l })
+  module _ {x : Enclosure} (e : x ≡ enclosure (λ w. stored-end w s node)) where
+    -- its ends are at most U
+    pub node-in-units : BothInUnits U x
+    node-in-units = rw (e, n .value)
+        (record {
+          lower-in-units = record { at-most = stored .in-units down };
+          upper-in-units = record { at-most = stored .in-units up };
+        })
 
-module _ (U : ℕ) (w : Direction) (kind : GateKind) (links : List ℕ) (inputs : ℕ) (values marks : List ℕ) where
-  -- the input of link j as the fold sees it
-  abbrev input : ℕ → End
-  input j = seen kind U (end-at w values marks (linked links j))
+    -- its ends as the fold goes by them
+    pub input-seen : (kind : GateKind) {y : Enclosure} → y ≡ enclosure (both-seen kind U (λ w. end-in w x))
+        → y ≡ enclosure (both-seen kind U (λ w. stored-end w s (linked links j)))
+    input-seen kind f = f ∙ same-ends (both-seen kind U (λ w. end-in w x)) (both-seen kind U input)
+        (λ w. rw (e, n .value, end-in-enclosure (turned kind w) input) refl)
+      where
+        input : Direction → End
+        input w = stored-end w s (linked links j)
 
-  -- the fold of the first j inputs
-  abbrev after : ℕ → End
-  after j = folded U (turned kind w) input 0 j
+module _ (U : ℕ) (positive : 0 < U) (kind : GateKind) (links : List ℕ) (inputs : ℕ) (s : Slices) where
+  -- the ends of link j's node as the fold goes by them
+  abbrev input : ℕ → Direction → End
+  input j w = both-seen kind U (λ v. stored-end v s (linked links j)) w
 
-  -- the running end after j inputs
-  pub record Running (running : Code-end) (j : ℕ) : Type 0 where
+  -- the fold of the first j inputs in each direction
+  abbrev after : ℕ → Direction → End
+  after j w = folded U w (λ i. input i w) 0 j
+
+  -- the running interval after j inputs
+  pub record Running (running : Enclosure) (j : ℕ) : Type 0 where
     pub within : j ≤ inputs
-    pub value-is : running ≡ as-code (after j)
-    pub in-units : InUnits U running
+    pub ends-are : running ≡ enclosure (after j)
+    pub in-units : BothInUnits U running
 
-  -- the fold begins with U, exact
-  pub running-start : Running (record { value = U; exact = true }) 0
-  unfolding start
-  running-start = record { within = omega arith; value-is = refl; in-units = record { at-most = le-refl U } }
+  -- the fold begins with the first input
+  pub running-start : 0 < inputs → (x : Enclosure) → x ≡ enclosure (input 0) → BothInUnits U x → Running x 1
+  running-start some x e units = record {
+    within = omega arith;
+    ends-are = e ∙ same-ends _ _ (λ w. sym (step-from-start U w (input 0 w) positive));
+    in-units = units;
+  }
 
-  module _ (j node : ℕ) (l : j < inputs) (n : Is16 node (linked links j)) where
-    -- one input more
-    pub running-next : (t : Code-direction) → way t ≡ turned kind w → (running : Code-end) → Running running j
-        → (x : Code-end) → x ≡ as-code (end-at w values marks node) → (factor : Code-end)
-        → factor ≡ as-code (seen kind U (as-theory x)) → (next : Code-end)
-        → next ≡ as-code (step U (way t) (as-theory running) (as-theory factor)) → InUnits U next
-        → Running next (j + 1)
-    running-next t turns running r x e factor f next s units = record {
-      within = omega arith;
-      value-is = s ∙ rw (turns, r .value-is, f, e, n .value, add-one j, zero-add j) refl;
-      in-units = units;
-    }
+  module _ (j : ℕ) (l : j < inputs) (running : Enclosure) (r : Running running j) (factor : Enclosure)
+      (f : factor ≡ enclosure (input j)) where
+    -- a step by one input more
+    next-end : (w : Direction) → step U w (end-in w running) (end-in w factor) ≡ after (j + 1) w
+    next-end w = rw (
+      r .ends-are,
+      f,
+      end-in-enclosure w (after j),
+      end-in-enclosure w (input j),
+      add-one j,
+      zero-add j,
+    ) refl
+
+    -- the running interval after it
+    pub running-next : (next : Enclosure) → next ≡ enclosure (λ w. step U w (end-in w running) (end-in w factor))
+        → BothInUnits U next → Running next (j + 1)
+    running-next next e units =
+        record { within = omega arith; ends-are = e ∙ same-ends _ _ next-end; in-units = units }
+
+  -- an end that the gate answers
+  answered-end : (w : Direction) → both-seen kind U (λ v. end-in v (enclosure (after inputs))) w
+      ≡ fold-end U w kind links inputs (stored-end w s)
+  answered-end w =
+      rw (end-in-enclosure (turned kind w) (after inputs))
+      (ap (λ v. seen kind U (folded U (turned kind w) (λ i. seen kind U (stored-end v s (linked links i))) 0 inputs))
+      (turned-twice kind w))
 
   -- what the gate answers
-  pub fold-answer : (running : Code-end) (j : ℕ) → Running running j → inputs ≤ j → (answer : Code-end)
-      → (answer ≡ as-code (seen kind U (as-theory running))) × InUnits U answer
-      → (answer ≡ as-code (fold-end U w kind links inputs (end-at w values marks))) × InUnits U answer
-  fold-answer running j r l answer s =
+  pub fold-answer : (running : Enclosure) (j : ℕ) → Running running j → inputs ≤ j → (answer : Enclosure)
+      → answer ≡ enclosure (both-seen kind U (λ w. end-in w running))
+      → answer ≡ enclosure (λ w. fold-end U w kind links inputs (stored-end w s))
+  fold-answer running j r l answer e =
       let all : j ≡ inputs = omega arith in
-      (s .0 ∙ rw (r .value-is, all) refl, s .1)
+      e ∙ rw (r .ends-are, all) (same-ends _ _ answered-end)

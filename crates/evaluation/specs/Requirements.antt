@@ -1,8 +1,8 @@
 -- What `evaluate` and the functions inside this crate ask of their callers.
-use Prim.Native.Nat.{ℕ, _≤_, _<_}
+use Prim.Native.Nat.{ℕ, suc, _≤_, _<_}
 use mathlib.Core.Path.{_≡_}
 use mathlib.Core.List.{List}
-use lib.ListN.{length, getD}
+use lib.ListN.{getD}
 use Rattle.theory.specs.Rounding.{Direction}
 use Rattle.tree_file.specs.Format.{link-count, linked, links-from, node-count}
 use Rattle.tree_file.specs.Tallies.{event-count}
@@ -29,20 +29,23 @@ pub record Evaluable (tree sheet : List ℕ) (nodes k n : ℕ) (s : Slices) : Ty
   pub nodes-is : nodes ≡ node-count tree
   pub long : Long nodes s
 
--- The links of a gate lie inside the part that begins with them, and name nodes with a place and an end of at most U.
--- The place is inside the slices, so the default 0 is never read.
-pub record Inputs-stored (U : ℕ) (links : List ℕ) (inputs : ℕ) (values marks : List ℕ) : Type 0 where
-  pub has-link : (j : ℕ) → j < inputs → HasLink links j
-  pub has-value : (j : ℕ) → j < inputs → linked links j < length values
-  pub has-mark : (j : ℕ) → j < inputs → linked links j < length marks
-  pub in-units : (j : ℕ) → j < inputs → getD values (linked links j) 0 ≤ U
+-- Link j lies inside the part of the links, and names a node with a place and ends of at most U. The place is inside
+-- the slices, so the default 0 is never read.
+pub record Input-stored (U : ℕ) (links : List ℕ) (j : ℕ) (s : Slices) : Type 0 where
+  pub has-link : HasLink links j
+  pub has-place : Long (suc (linked links j)) s
+  pub in-units : (w : Direction) → getD (slice (ends w) s) (linked links j) 0 ≤ U
+
+-- A gate has an input, and all its inputs are stored.
+pub record Inputs-stored (U : ℕ) (links : List ℕ) (inputs : ℕ) (s : Slices) : Type 0 where
+  pub some-input : 0 < inputs
+  pub input-stored : (j : ℕ) → j < inputs → Input-stored U links j s
 
 -- A gate's links lie inside a well-formed tree, and its inputs' ends are stored, lower and upper.
 pub record Gate-stored (U : ℕ) (tree : List ℕ) (g : Gate) (s : Slices) : Type 0 where
   pub well-formed : WellFormed tree
   pub first-inside : g .first ≤ link-count tree
-  pub inputs-stored : (w : Direction)
-      → Inputs-stored U (links-from tree (g .first)) (g .inputs) (slice (ends w) s) (s .marks)
+  pub inputs-stored : Inputs-stored U (links-from tree (g .first)) (g .inputs) s
 
 -- Node i of a well-formed tree, and, where it is a gate, its inputs' stored ends. Inputs are nodes of the tree, which
 -- have their places (`long`), so the default 0 is never read.

@@ -1,69 +1,73 @@
-// The end of a gate, input by input.
-use crate::stored::stored_end;
+// Both ends of a gate, input by input.
+use crate::seen::seen_ends;
+use crate::stored::stored_ends;
 use rounding::direction::Direction;
-use rounding::direction::opposite;
-use rounding::end::End;
-use rounding::step::complement;
+use rounding::end::Enclosure;
 use rounding::step::step;
-use rounding::unit::UNIT;
 use tree_file::node::GateKind;
 use tree_file::node::linked_node;
 ghost use mathlib.Core.Path.{_≡_};
 ghost use Rattle.theory.specs.Unit.{billion};
-ghost use Rattle.theory.specs.GateFold.{seen, turned};
+ghost use Rattle.theory.specs.Rounding.{step};
+ghost use Rattle.theory.specs.GateFold.{both-seen};
+ghost use Rattle.tree_file.specs.Format.{linked};
 ghost use Rattle.tree_file.specs.NodeTable.{kind-as};
-ghost use Rattle.rounding.specs.Ends.{way, as-theory, as-code, InUnits};
-ghost use Rattle.evaluation.specs.Slices.{end-at};
+ghost use Rattle.rounding.specs.Ends.{enclosure, end-in, BothInUnits};
+ghost use Rattle.evaluation.specs.Slices.{slices, stored-end};
 ghost use Rattle.evaluation.specs.Phases.{fold-end};
-ghost use Rattle.evaluation.specs.Requirements.{Inputs-stored};
+ghost use Rattle.evaluation.specs.Requirements.{Input-stored, Inputs-stored};
 
-// An input or an answer as the fold goes by it: an OR goes by what is missing to 1.
-fn seen_end(kind: GateKind, x: End) -> End
-    requires { ⌜ InUnits billion x ⌝ }
-    ensures { λ r. ⌜ (r ≡ as-code (seen (kind-as kind) billion (as-theory x))) × InUnits billion r ⌝ }
+// The running interval times a factor: the lower end is rounded down, the upper end up.
+fn step_ends(running: Enclosure, factor: Enclosure) -> Enclosure
+    requires { ⌜ BothInUnits billion running × BothInUnits billion factor ⌝ }
+    ensures { λ r. ⌜ r ≡ enclosure (λ w. step billion w (end-in w running) (end-in w factor)) ⌝ }
+    ensures { λ r. ⌜ BothInUnits billion r ⌝ }
 {
-    match kind {
-        GateKind::All => x,
-        GateKind::Any => complement(x),
+    Enclosure {
+        lower: step(Direction::Down, running.lower, factor.lower),
+        upper: step(Direction::Up, running.upper, factor.upper),
     }
 }
 
-// The direction in which the fold rounds: an OR rounds its complements the other way.
-fn turned_direction(kind: GateKind, direction: Direction) -> Direction
-    ensures { λ r. ⌜ way r ≡ turned (kind-as kind) (way direction) ⌝ }
+// The ends of the input that link j names, as the fold goes by them.
+fn seen_input(
+    kind: GateKind,
+    links: &[u8],
+    j: usize,
+    lower: &[u32],
+    upper: &[u32],
+    marks: &[u8],
+) -> Enclosure
+    requires { ⌜ Input-stored billion (now links) j (slices (now lower) (now upper) (now marks)) ⌝ }
+    ensures { λ r. ⌜ r ≡ enclosure (both-seen (kind-as kind) billion (λ w. stored-end w
+        (slices (now (lower .entry)) (now (upper .entry)) (now (marks .entry))) (linked (now (links .entry)) j))) ⌝ }
+    ensures { λ r. ⌜ BothInUnits billion r ⌝ }
 {
-    match kind {
-        GateKind::All => direction,
-        GateKind::Any => opposite(direction),
-    }
+    let node = linked_node(links, j);
+    let ends = stored_ends(lower, upper, marks, node);
+    seen_ends(kind, ends)
 }
 
-// The end of a gate by the stored ends of the nodes that its links name. The links are the part of the tree file that
-// starts at the gate's first link.
-pub fn gate_end(
-    direction: Direction,
+// Both ends of a gate by the stored ends of the nodes that its links name, in one pass. The links are the part of the
+// tree file that starts at the gate's first link. The fold starts with the first input: a step by it, from 1, is itself.
+pub fn gate_ends(
     kind: GateKind,
     links: &[u8],
     inputs: usize,
-    values: &[u32],
+    lower: &[u32],
+    upper: &[u32],
     marks: &[u8],
-) -> End
-    requires { ⌜ Inputs-stored billion (now links) inputs (now values) (now marks) ⌝ }
-    ensures { λ r. ⌜ (r ≡ as-code (fold-end billion (way direction) (kind-as kind) (now (links .entry)) inputs
-        (end-at (way direction) (now (values .entry)) (now (marks .entry))))) × InUnits billion r ⌝ }
+) -> Enclosure
+    requires { ⌜ Inputs-stored billion (now links) inputs (slices (now lower) (now upper) (now marks)) ⌝ }
+    ensures { λ r. ⌜ r ≡ enclosure (λ w. fold-end billion w (kind-as kind) (now (links .entry)) inputs
+        (stored-end w (slices (now (lower .entry)) (now (upper .entry)) (now (marks .entry))))) ⌝ }
 {
-    let turned = turned_direction(kind, direction);
-    let mut running = End {
-        value: UNIT as u32,
-        exact: true,
-    };
-    let mut j = 0;
+    let mut running = seen_input(kind, links, 0, lower, upper, marks);
+    let mut j = 1;
     while j < inputs {
-        let node = linked_node(links, j);
-        let input = stored_end(direction, values, marks, node);
-        let factor = seen_end(kind, input);
-        running = step(turned, running, factor);
+        let factor = seen_input(kind, links, j, lower, upper, marks);
+        running = step_ends(running, factor);
         j += 1;
     }
-    seen_end(kind, running)
+    seen_ends(kind, running)
 }

@@ -1,7 +1,6 @@
 // The second phase: the ends of each gate to its place, by the links alone.
-use crate::gate::gate_end;
+use crate::gate::gate_ends;
 use crate::stored::put_ends;
-use rounding::direction::Direction;
 use rounding::end::Enclosure;
 use tree_file::node::Gate;
 use tree_file::node::Node;
@@ -24,10 +23,7 @@ fn gate_enclosure(tree: &[u8], gate: Gate, lower: &[u32], upper: &[u32], marks: 
     let kind = gate.kind;
     let inputs = gate.inputs;
     let links = links_from(tree, gate.first);
-    Enclosure {
-        lower: gate_end(Direction::Down, kind, links, inputs, lower, marks),
-        upper: gate_end(Direction::Up, kind, links, inputs, upper, marks),
-    }
+    gate_ends(kind, links, inputs, lower, upper, marks)
 }
 
 // Puts the ends of node i, if it is a gate.

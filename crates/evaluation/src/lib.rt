@@ -4,4 +4,5 @@ pub mod evaluate;
 mod events;
 mod gate;
 mod gates;
+mod seen;
 pub mod stored;

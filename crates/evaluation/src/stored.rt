@@ -7,11 +7,11 @@ use rounding::mark::mark_byte;
 ghost use mathlib.Core.Path.{_≡_};
 ghost use Prim.Native.Nat.{suc, _<_};
 ghost use lib.ListN.{length};
-ghost use Rattle.rounding.specs.Ends.{way, as-code};
-ghost use Rattle.evaluation.specs.Slices.{slices, end-at, Long, put};
+ghost use Rattle.rounding.specs.Ends.{way, as-code, enclosure};
+ghost use Rattle.evaluation.specs.Slices.{slices, end-at, stored-end, Long, put};
 
 // The stored end of node i in a direction, from the slice of its values and that of the marks.
-pub fn stored_end(direction: Direction, values: &[u32], marks: &[u8], i: usize) -> End
+fn stored_end(direction: Direction, values: &[u32], marks: &[u8], i: usize) -> End
     requires { ⌜ (i < length (now values)) × (i < length (now marks)) ⌝ }
     ensures { λ r. ⌜ r ≡ as-code (end-at (way direction) (now (values .entry)) (now (marks .entry)) i) ⌝ }
 {
@@ -19,6 +19,18 @@ pub fn stored_end(direction: Direction, values: &[u32], marks: &[u8], i: usize) 
     let mark = marks[i];
     let exact = is_marked(direction, mark);
     End { value, exact }
+}
+
+// Both stored ends of node i.
+pub fn stored_ends(lower: &[u32], upper: &[u32], marks: &[u8], i: usize) -> Enclosure
+    requires { ⌜ Long (suc i) (slices (now lower) (now upper) (now marks)) ⌝ }
+    ensures { λ r. ⌜ r ≡ enclosure (λ w. stored-end w
+        (slices (now (lower .entry)) (now (upper .entry)) (now (marks .entry))) i) ⌝ }
+{
+    Enclosure {
+        lower: stored_end(Direction::Down, lower, marks, i),
+        upper: stored_end(Direction::Up, upper, marks, i),
+    }
 }
 
 // Puts both ends and their marks at place i.

@@ -1,19 +1,20 @@
 -- What the evaluation of a pair leaves, the report that is read from it, and demands 2 and 3 of both.
 use Prim.Native.Nat.{ℕ, _-_, _<_}
-use mathlib.Core.Path.{_≡_, ap, _∙_}
+use mathlib.Core.Path.{_≡_, _∙_}
 use mathlib.Core.List.{List}
 use native.Mathlib.Omega.{arith}
-use Rattle.theory.specs.Rounding.{Direction, down, up}
+use Rattle.theory.specs.Rounding.{Direction}
 use Rattle.tree_file.specs.Format.{node-count}
 use Rattle.tree_file.specs.Tallies.{event-count}
-use Rattle.rounding.specs.Ends.{as-code}
-use Rattle.rounding.specs.declared.end.End.{End}
+use Rattle.rounding.specs.Ends.{enclosure}
+use Rattle.rounding.specs.declared.end.Enclosure.{Enclosure}
 use Rattle.rounding.proofs.Marks.{end-in-enclosure}
 use Rattle.opinion_sheet.specs.Format.{unit}
 use Rattle.evaluation.specs.Slices.{Slices, stored-end}
 use Rattle.evaluation.specs.Report.{node-end, node-enclosure, slices-after}
 use Rattle.evaluation.specs.Requirements.{Evaluable}
 use Rattle.evaluation.proofs.Places.{stored-at}
+use Rattle.evaluation.proofs.BothEnds.{same-ends}
 use Rattle.evaluation.proofs.Turns.{filled-at}
 use Rattle.evaluation.proofs.NodePromises.{node-bottom-up, node-interval-ends, node-kept, node-encloses}
 use Rattle.monitor.specs.Question.{root, report-of}
@@ -37,17 +38,14 @@ module _ (tree sheet : List ℕ) (nodes k n : ℕ) (before : Slices) (asked : Ev
       (rw (asked .nodes-is) at (asked .long))) w
 
   -- what the root's place holds is the report
-  pub report-read : (s : Slices) → s ≡ after → (events : ℕ) → events ≡ event-count tree → (low high : End)
-      → low ≡ as-code (stored-end down s (nodes - 1)) → high ≡ as-code (stored-end up s (nodes - 1))
-      → record { ends = record { lower = low; upper = high }; events = events } ≡ report-of (unit sheet) tree sheet k n
+  pub report-read : (s : Slices) → s ≡ after → (events : ℕ) → events ≡ event-count tree → (ends : Enclosure)
+      → ends ≡ enclosure (λ w. stored-end w s (nodes - 1))
+      → record { ends = ends; events = events } ≡ report-of (unit sheet) tree sheet k n
   unfolding report-of
-  report-read s es events ee low high el eh =
+  report-read s es events ee ends e =
       let at-root : (w : Direction) → stored-end w s (nodes - 1) ≡ node-end (unit sheet) w tree sheet k n (root tree) =
       λ w. rw (es, asked .nodes-is) (stored w (root tree) root-inside) in
-      λ i. record {
-        ends = record { lower = (el ∙ ap as-code (at-root down)) i; upper = (eh ∙ ap as-code (at-root up)) i };
-        events = ee i;
-      }
+      λ i. record { ends = (e ∙ same-ends _ _ at-root) i; events = ee i }
 
   -- demands 2 and 3 of the report and of the slices
   pub answer-kept : Kept (unit sheet) (report-of (unit sheet) tree sheet k n) tree sheet k n after

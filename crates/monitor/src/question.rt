@@ -4,10 +4,9 @@ use crate::judge::judge;
 use crate::judge::judge_slices;
 use crate::state::State;
 use evaluation::evaluate::evaluate;
-use evaluation::stored::stored_end;
+use evaluation::stored::stored_ends;
 use refusals::refusal::FirstFault;
 use refusals::refusal::Refusal;
-use rounding::direction::Direction;
 use rounding::end::Enclosure;
 use tree_file::judgement::Counts;
 ghost use mathlib.Core.Path.{_≡_};
@@ -60,15 +59,8 @@ fn answered(
     let events = counts.events;
     evaluate(tree, sheet, nodes, k, n, lower, upper, marks);
     let root = nodes - 1;
-    let low = stored_end(Direction::Down, lower, marks, root);
-    let high = stored_end(Direction::Up, upper, marks, root);
-    Report {
-        ends: Enclosure {
-            lower: low,
-            upper: high,
-        },
-        events,
-    }
+    let ends = stored_ends(lower, upper, marks, root);
+    Report { ends, events }
 }
 
 // Questions level k of n. The last promise is demands 2 and 3, of the answer and of every node's place in the slices.

@@ -37,3 +37,8 @@ end-in up x = as-theory (x .upper)
 -- an end is at most U
 pub record InUnits (U : ℕ) (x : Code-end) : Type 0 where
   pub at-most : x .value ≤ U
+
+-- both ends of an interval are at most U
+pub record BothInUnits (U : ℕ) (x : Enclosure) : Type 0 where
+  pub lower-in-units : InUnits U (x .lower)
+  pub upper-in-units : InUnits U (x .upper)

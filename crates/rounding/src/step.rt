@@ -1,12 +1,23 @@
 // The step of a gate: the running number times an input, rounded outward, with its mark.
 use crate::direction::Direction;
-use crate::divide::divided;
 use crate::end::End;
 use crate::unit::UNIT;
 ghost use mathlib.Core.Path.{_≡_};
+ghost use Prim.Native.Nat.{_*_, _≤_};
 ghost use Rattle.theory.specs.Unit.{billion};
-ghost use Rattle.theory.specs.Rounding.{step, end-complement};
+ghost use Rattle.theory.specs.Rounding.{rescaled, step, end-complement};
 ghost use Rattle.rounding.specs.Ends.{way, as-theory, as-code, InUnits};
+
+// A product of two ends over U, rounded: up without a test for a remainder.
+fn rescaled(direction: Direction, product: u64) -> u32
+    requires { ⌜ product ≤ billion * billion ⌝ }
+    ensures { λ r. ⌜ r ≡ rescaled billion (way direction) product ⌝ }
+{
+    match direction {
+        Direction::Down => (product / UNIT) as u32,
+        Direction::Up => ((product + UNIT - 1) / UNIT) as u32,
+    }
+}
 
 // The running number times a factor, over U.
 pub fn step(direction: Direction, running: End, factor: End) -> End
@@ -15,11 +26,12 @@ pub fn step(direction: Direction, running: End, factor: End) -> End
     ensures { λ r. ⌜ InUnits billion r ⌝ }
 {
     let product = (running.value as u64) * (factor.value as u64);
-    let quotient = divided(direction, product, UNIT);
+    let value = rescaled(direction, product);
+    let whole = (value as u64) * UNIT == product;
     let zero = running.exact & (running.value == 0) | factor.exact & (factor.value == 0);
     End {
-        value: quotient.value,
-        exact: running.exact & factor.exact & quotient.exact | zero,
+        value,
+        exact: running.exact & factor.exact & whole | zero,
     }
 }
 

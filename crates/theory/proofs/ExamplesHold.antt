@@ -4,14 +4,14 @@ use mathlib.Core.Path.{_≡_, refl}
 use mathlib.Core.List.{map}
 use Rattle.theory.specs.Trapezoid.{cut}
 use Rattle.theory.specs.Rounding.{down, up, rounded, nothing-dropped, start, end-complement, true-zero, step}
-use Rattle.theory.specs.Rounding.{cut-end}
+use Rattle.theory.specs.Rounding.{rescaled, cut-end}
 use Rattle.theory.specs.Unreliability.{unreliability}
 use Rattle.theory.specs.Examples.{outcome, table, Examples-4-5, Road-trip-minimal}
 
 -- every row's ends and marks are those that the rounded evaluation reports
 pub examples-hold : (map (outcome down) table ≡ map (λ x. x .lower) table)
     × (map (outcome up) table ≡ map (λ x. x .upper) table)
-unfolding cut rounded nothing-dropped start end-complement true-zero step cut-end
+unfolding cut rounded nothing-dropped rescaled start end-complement true-zero step cut-end
 examples-hold = (refl, refl)
 
 -- the road trip's cut sets, weights and unreliability are those of the paper

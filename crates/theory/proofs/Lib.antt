@@ -26,6 +26,7 @@ pub mod Gap
 pub mod GapProduct
 pub mod Outward
 pub mod RoundingMeaning
+pub mod Rescaled
 pub mod Rounded
 pub mod RoundedGate
 pub mod RoundedTree

@@ -1,9 +1,11 @@
 -- A gap in a direction: v stands in for x, below it or above it. Each law of Gap.antt once for both directions.
 use Prim.Native.Nat.{ℕ, _+_, _-_, _*_, _≤_, _<_}
 use native.Mathlib.Nat.{add-comm}
-use mathlib.Core.Bool.{Bool, true, _&&_, _||_, and-comm}
+use native.Mathlib.Omega.{arith}
+use mathlib.Core.Bool.{Bool, true, false, _&&_, _||_, and-comm}
 use mathlib.Core.Path.{_≡_, sym}
 use lib.Dec.{eqb}
+use borrow.Author.Tests.{eq-eqb, ne-eqb}
 use Rattle.theory.specs.Rounding.{Direction, down, up, opposite}
 use Rattle.theory.proofs.Gap.{Gap, gap-widen, gap-join, gap-scale, gap-cancel, gap-complement}
 use Rattle.theory.proofs.Gap.{exact-gap, gap-zero-lower, gap-zero-upper}
@@ -27,6 +29,13 @@ pub record Outward (w : Direction) (A d : ℕ) (m : Bool) (v x : ℕ) : Type 0 w
 pub outward-respects : {w : Direction} {A d v x B e u y : ℕ} {m n : Bool}
     → A ≡ B → d ≡ e → m ≡ n → v ≡ u → x ≡ y → Outward w A d m v x → Outward w B e n u y
 outward-respects a b c d e g = rw (← a, ← b, ← c, ← d, ← e) g
+
+-- the mark is whether they are equal
+pub outward-mark : {w : Direction} {A d v x : ℕ} {m : Bool} → Outward w A d m v x → eqb v x ≡ m
+outward-mark {w = down} {v} {x} {m = true} g = eq-eqb v x (g .gap .marked tt)
+outward-mark {w = down} {v} {x} {m = false} g = ne-eqb v x (λ e. omega (arith, g .gap .unmarked tt))
+outward-mark {w = up} {v} {x} {m = true} g = eq-eqb v x (sym (g .gap .marked tt))
+outward-mark {w = up} {v} {x} {m = false} g = ne-eqb v x (λ e. omega (arith, g .gap .unmarked tt))
 
 -- equal numbers have a gap of nothing
 pub outward-exact : (w : Direction) (d : ℕ) {v x : ℕ} → v ≡ x → Outward w 0 d true v x

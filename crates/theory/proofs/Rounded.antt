@@ -6,15 +6,17 @@ use native.Mathlib.Omega.{arith}
 use mathlib.Core.Path.{_≡_, refl, ap, ap₂, sym, _∙_}
 use mathlib.Core.Bool.{Bool, true, false, _&&_, _||_}
 use lib.Dec.{T, eqb, eqb→eq}
+use borrow.Author.Tests.{ne-eqb}
 use Rattle.theory.specs.Fraction.{Fraction, Probability, one, _⊗_, complement}
-use Rattle.theory.specs.Rounding.{Direction, opposite, carry, rounded, nothing-dropped}
+use Rattle.theory.specs.Rounding.{Direction, opposite, carry, rounded, nothing-dropped, rescaled}
 use Rattle.theory.specs.Rounding.{End, start, end-complement, true-zero, step, cut-end}
 use Rattle.theory.proofs.Missing.{sub-mul, eqb-zero-times, either-of-or, both-of-and}
 use Rattle.theory.proofs.Outward.{Outward, outward-respects, outward-exact, outward-widen, outward-join}
 use Rattle.theory.proofs.Outward.{outward-scale, outward-cancel, outward-complement, outward-product}
 use Rattle.theory.proofs.BottomUpProbability.{one-probability, product-probability}
-use Rattle.theory.proofs.RoundingMeaning.{rounded-outward, rounded-at-most, carry-at-most-one}
+use Rattle.theory.proofs.RoundingMeaning.{rounded-outward, rounded-whole, rounded-at-most, carry-at-most-one}
 use Rattle.theory.proofs.RoundingMeaning.{carry-whole, nothing-dropped-zero}
+use Rattle.theory.proofs.Rescaled.{rescaled-is-rounded, rescaled-at-most}
 
 -- the end r, of which U make 1, stands in for x, less than A units off in the direction w where A is above 0
 pub record EndGap (U : ℕ) (w : Direction) (A : ℕ) (r : End) (x : Fraction) : Type 0 where
@@ -113,12 +115,13 @@ pub step-gap-carry : {U A B : ℕ} {w : Direction} {r x : End} {f g : Fraction}
     → 0 < U → Probability f → Probability g → EndGap U w A r f → EndGap U w B x g
     → EndGap U w (A + B + carry (r .value * x .value % U)) (step U w r x) (f ⊗ g)
 unfolding step
-step-gap-carry {U} {w} {r} {x} i p q k l = record {
+step-gap-carry {U} {w} {r} {x} {f} {g} i p q k l = record {
   outward = outward-respects refl refl
       (step-mark (r .exact) (x .exact) (nothing-dropped (r .value * x .value) U) (true-zero r || true-zero x)
       (zero-drops-nothing U r x))
-      refl refl (rounded-product-outward i p q k l);
-  bounded = rounded-at-most w (r .value * x .value) U U i (mul-le-mul (k .bounded) (l .bounded));
+      (ap (λ v. v * (f .den * g .den)) (sym (rescaled-is-rounded U w (r .value * x .value) i))) refl
+      (rounded-product-outward i p q k l);
+  bounded = rescaled-at-most U w (r .value * x .value) U i (mul-le-mul (k .bounded) (l .bounded));
 }
 
 -- a step adds less than 1 unit to what its factors are off
@@ -128,6 +131,22 @@ pub step-gap : {U A B : ℕ} {w : Direction} {r x : End} {f g : Fraction}
 step-gap {U} {r} {x} i p q k l =
     end-gap-widen (omega (arith, carry-at-most-one (r .value * x .value % U))) (product-probability _ _ p q)
     (step-gap-carry i p q k l)
+
+-- the mark of a step from an exact end that is not 0 and drops nothing
+mark-from-start : (m z : Bool) → m && true || (false || m && z) ≡ m
+mark-from-start true z = refl
+mark-from-start false z = refl
+
+-- the first step of a gate answers its factor
+pub step-from-start : (U : ℕ) (w : Direction) (x : End) → 0 < U → step U w (start U) x ≡ x
+unfolding step start true-zero nothing-dropped
+step-from-start U w x p = ap₂ (λ v m. record { value = v; exact = m }) whole mark
+  where
+    whole : rescaled U w (U * x .value) ≡ x .value
+    whole = rw (rescaled-is-rounded U w (U * x .value) p, mul-comm U (x .value)) (rounded-whole w (x .value) U p)
+
+    mark : x .exact && eqb (carry (U * x .value % U)) 0 || (eqb U 0 || x .exact && eqb (x .value) 0) ≡ x .exact
+    mark = rw (carry-whole (x .value) U, ne-eqb U 0 (λ e. omega arith)) (mark-from-start (x .exact) _)
 
 -- the first step of a gate rounds nothing
 pub step-start : {U A : ℕ} {w : Direction} {x : End} {g : Fraction}

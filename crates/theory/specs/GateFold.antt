@@ -14,6 +14,15 @@ abbrev pub turned : GateKind → Direction → Direction
 turned all w = w
 turned any w = opposite w
 
+-- Both ends of an interval, by direction, as the fold sees them: what is missing to 1 turns the two about.
+abbrev pub both-seen : GateKind → ℕ → (Direction → End) → Direction → End
+both-seen kind U ends w = seen kind U (ends (turned kind w))
+
+-- Of two things, the one for an AND and the one for an OR.
+abbrev pub by-kind : {A : Type 0} → GateKind → A → A → A
+by-kind all x y = x
+by-kind any x y = y
+
 -- The running number after the ends of links a, a + 1, .. : m of them, the last one added last.
 abbrev pub folded : ℕ → Direction → (ℕ → End) → ℕ → ℕ → End
 folded U w ends a zero = start U

@@ -2,9 +2,11 @@
 -- Nothing here knows of bytes or machine widths, and the unit U is a parameter.
 -- The main theorems are in proofs/. Of every node of a table (NodePromised): `node-agrees` and `node-exact-ends` are
 -- demand 2, `node-promised` and `node-contained` demand 3. `rounded` is what `IsRounded` says, and nothing else is:
--- `rounded-is-rounded`, `rounded-unique` (RoundingMeaning). The examples: `examples-hold`, `examples-4-5-hold`,
--- `road-trip-minimal-holds`. A tree's family is of its minimal cut sets, and whatever else enumerates them has as many:
--- `family-enumerates`, `enumerations-agree` (CutSetsEnumerated).
+-- `rounded-is-rounded`, `rounded-unique` (RoundingMeaning). A step's form of rounding is the same number, up it is what
+-- `Least-reaching` says, and nothing else is: `rescaled-is-rounded`, `rescaled-up-is-least`, `least-is-rescaled-up`
+-- (Rescaled). The examples: `examples-hold`, `examples-4-5-hold`, `road-trip-minimal-holds`. A tree's family is of its
+-- minimal cut sets, and whatever else enumerates them has as many: `family-enumerates`, `enumerations-agree`
+-- (CutSetsEnumerated).
 -- GateFold stands for contracts inside evaluation only.
 pub mod Fraction
 pub mod FaultTree

@@ -1,6 +1,6 @@
 -- Outward rounding to units of which U make 1: the step of a gate with its mark, and the rounded evaluation of a tree
 -- (01, "A level, and the way up"). One definition serves both directions: lower ends are rounded down, upper ends up.
-use Prim.Native.Nat.{ℕ, zero, suc, _+_, _-_, _*_, _/_, _%_, _≤_}
+use Prim.Native.Nat.{ℕ, zero, suc, _+_, _-_, _*_, _/_, _%_, _≤_, _<_}
 use mathlib.Core.Bool.{Bool, true, _&&_, _||_}
 use mathlib.Core.List.{List, [], _∷_, map}
 use lib.Dec.{eqb}
@@ -53,6 +53,18 @@ pub record End : Type 0 where
 abbrev pub divided : Direction → ℕ → ℕ → End
 divided w a b = record { value = rounded w a b; exact = nothing-dropped a b }
 
+-- r is the least whole number that, times U, reaches the product: it does, and nothing less does
+pub record Least-reaching (U product r : ℕ) : Type 0 where
+  pub reaches : product ≤ r * U
+  pub nothing-less : (u : ℕ) → u < r → u * U < product
+
+-- a product of two ends over U, rounded: up without a test for a remainder. For U above 0 it is `rounded`
+-- (`rescaled-is-rounded`), and up it is the one number of which `Least-reaching` speaks (`rescaled-up-is-least`,
+-- `least-is-rescaled-up`)
+unfoldable pub rescaled : ℕ → Direction → ℕ → ℕ
+rescaled U down product = product / U
+rescaled U up product = (product + U - 1) / U
+
 -- the number that AND starts with
 unfoldable pub start : ℕ → End
 start U = record { value = U; exact = true }
@@ -68,10 +80,10 @@ true-zero r = r .exact && eqb (r .value) 0
 -- the running number r times a factor x
 unfoldable pub step : ℕ → Direction → End → End → End
 step U w r x =
-    let product : End = divided w (r .value * x .value) U in
+    let product : ℕ = r .value * x .value in
     record {
-      value = product .value;
-      exact = r .exact && x .exact && product .exact || (true-zero r || true-zero x);
+      value = rescaled U w product;
+      exact = r .exact && x .exact && nothing-dropped product U || (true-zero r || true-zero x);
     }
 
 -- a basic event's end: the exact end f of its cut, rounded once

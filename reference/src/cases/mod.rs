@@ -20,6 +20,7 @@ pub mod fractions;
 pub mod call_lists;
 pub mod vector_list;
 pub mod fraction_vectors;
+pub mod step_vectors;
 
 use crate::random::Random;
 

@@ -48,6 +48,7 @@ pub fn vector_list() -> Vec<Call> {
     list.set_changes();
     list.generated_sets();
     list.fraction_entries();
+    list.step_limits();
     list.calls
 }
 

@@ -1,6 +1,6 @@
 -- `evaluation::stored::stored_end` meets its contract.
 use borrow.Author.Needs.{needs}
-use Rattle.evaluation.proofs.GateTurn.{end-read}
+use Rattle.evaluation.proofs.BothEnds.{end-read}
 use Rattle.evaluation.proofs.stored.stored_end.Statement.{statement}
 use Rattle.evaluation.proofs.stored.stored_end.Tie as tie
 

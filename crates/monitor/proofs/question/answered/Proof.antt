@@ -10,11 +10,8 @@ evaluate-requires c κs = search needs
 sub-root : tie.Need-sub-root
 sub-root c = search needs
 
-stored-end-requires : tie.Need-stored-end-requires
-stored-end-requires c κs = search needs
-
-stored-end-requires-2 : tie.Need-stored-end-requires-2
-stored-end-requires-2 c κs = search needs
+stored-ends-requires : tie.Need-stored-ends-requires
+stored-ends-requires c κs = search needs
 
 same-length : tie.Need-same-length
 same-length c = search needs
@@ -27,11 +24,10 @@ same-length-3 c = search needs
 
 returns : tie.Need-returns
 returns c =
-    let stored = c .before .before .before in
-    let evaluated = stored .before .before .before .before .before .before .before .before .before in
+    let evaluated = c .before .before .before .before .before .before .before .before .before .before in
     let start = evaluated .before .before .before .before .before .before .before .before .before in (
-      report-read _ _ _ _ _ _ (start .pre .0) _ (evaluated .evaluate .ensures) _ (start .pre .1) _ _
-          (stored .stored-end .ensures) (c .stored-end2 .ensures),
+      report-read _ _ _ _ _ _ (start .pre .0) _ (evaluated .evaluate .ensures) _ (start .pre .1) _
+          (c .stored-ends .ensures),
       evaluated .evaluate .ensures,
     )
 
@@ -41,8 +37,7 @@ answered-spec =
     (tie.spec
     evaluate-requires
     sub-root
-    stored-end-requires
-    stored-end-requires-2
+    stored-ends-requires
     same-length
     same-length-2
     same-length-3
