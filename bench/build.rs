@@ -1,4 +1,5 @@
-//! Links the proved library that `rt staticlib capi` writes, and the peer, which is built here for this machine.
+//! Links the proved library that `rt staticlib capi` writes, and the peer, which is built here for this machine. The
+//! proved library is made a shared one as well, to be opened beside that of another commit.
 
 use std::env;
 use std::path::{Path, PathBuf};
@@ -11,11 +12,11 @@ const PEER_FLAGS: [&str; 7] = ["-std=c11", "-O3", "-march=native", "-Wall", "-We
 fn main() {
     let [package, built] =
         ["CARGO_MANIFEST_DIR", "OUT_DIR"].map(|name| PathBuf::from(env::var(name).expect("cargo names its folders")));
-    link_library(&package.join("../target/staticlib"));
+    link_library(&package.join("../target/staticlib"), &built.join("capi.so"));
     build_peer(&package, &built);
 }
 
-fn link_library(folder: &Path) {
+fn link_library(folder: &Path, shared: &Path) {
     let library = folder.join(LIBRARY);
     println!("cargo::rerun-if-changed={}", library.display());
     if !library.exists() {
@@ -24,6 +25,9 @@ fn link_library(folder: &Path) {
     }
     println!("cargo::rustc-link-search=native={}", folder.display());
     println!("cargo::rustc-link-lib=static=capi");
+    let [whole, rest] = ["-Wl,--whole-archive", "-Wl,--no-whole-archive"];
+    run(Command::new("cc").args(["-shared", "-o"]).arg(shared).arg(whole).arg(library).arg(rest));
+    println!("cargo::rustc-env=SHARED_CAPI={}", shared.display());
 }
 
 fn build_peer(package: &Path, built: &Path) {

@@ -1,5 +1,9 @@
-//! The C interface, declared as in include/nekbrod.h, with a safe function for each call. Two libraries have it: the
-//! proved one, and the peer, which has no cut sets.
+//! The C interface, declared as in include/nekbrod.h, with a safe function for each call. Two linked libraries have it,
+//! the proved one and the peer, which has no cut sets; others may be found at run time.
+
+use std::ffi::{c_void, CStr};
+use std::mem::transmute;
+use std::ptr::NonNull;
 
 /// The probability 1 in units.
 pub const ONE: u32 = 1_000_000_000;
@@ -63,6 +67,7 @@ pub struct Listing {
 }
 
 type HandIn = unsafe extern "C" fn(State, *const u8, usize, *mut u8, usize) -> Answer;
+type DropBoth = unsafe extern "C" fn(State) -> State;
 type Judge = unsafe extern "C" fn(State, *const u8, usize, *const u8, usize, u32, u32) -> Standing;
 #[rustfmt::skip]
 type Question = unsafe extern "C" fn(
@@ -82,7 +87,7 @@ pub struct Library {
     pub name: &'static str,
     hand_in_tree: HandIn,
     hand_in_sheet: HandIn,
-    drop_both: unsafe extern "C" fn(State) -> State,
+    drop_both: DropBoth,
     judge: Judge,
     question: Question,
     cut_sets: Option<CutSets>,
@@ -198,6 +203,25 @@ pub struct Work<'a> {
 }
 
 impl Library {
+    /// The library whose calls are found by their names in the header; without the cut sets, which no one asks it for.
+    ///
+    /// # Safety
+    /// An address that is found is that of the call, with the header's types, for as long as the program runs.
+    pub unsafe fn found<E>(
+        name: &'static str,
+        find: impl Fn(&CStr) -> Result<NonNull<c_void>, E>,
+    ) -> Result<Library, E> {
+        Ok(Library {
+            name,
+            hand_in_tree: transmute::<NonNull<c_void>, HandIn>(find(c"nekbrod_hand_in_tree")?),
+            hand_in_sheet: transmute::<NonNull<c_void>, HandIn>(find(c"nekbrod_hand_in_sheet")?),
+            drop_both: transmute::<NonNull<c_void>, DropBoth>(find(c"nekbrod_drop_both")?),
+            judge: transmute::<NonNull<c_void>, Judge>(find(c"nekbrod_judge")?),
+            question: transmute::<NonNull<c_void>, Question>(find(c"nekbrod_question")?),
+            cut_sets: None,
+        })
+    }
+
     pub fn hand_in_tree(&self, state: State, file: &[u8], store: &mut [u8]) -> Answer {
         // SAFETY: both slices are there for their lengths, and Rust keeps the written one apart from the other.
         unsafe { (self.hand_in_tree)(state, read(file), file.len(), written(store), store.len()) }

@@ -1,20 +1,28 @@
 //! The commands; `bench help` lists them.
 
+use bench::capi::{CAPI, PEER};
 use bench::compare::{compare, Cases};
 use bench::desk::Tally;
-use bench::ratios::{costs, Cost, Entries, Shape, Size};
+use bench::gates::{self, Gates};
+use bench::loaded::{load, Loaded};
+use bench::marked_sheets::Marks;
+use bench::ratios::{self, Entries, Shape};
 use bench::sets;
 use bench::soak::soak;
+use bench::timing::{Contestant, Cost};
 use std::process::ExitCode;
 use std::time::{Instant, SystemTime, UNIX_EPOCH};
 
 const USAGE: &str = "\
-bench                               questions through capi beside the same to the peer: ratios, and the cost per node
+bench [LIBRARY]                     questions through capi beside the same to the peer: ratios, and the cost per node
+bench gates [LIBRARY]               questions on trees of AND gates alone, OR gates alone and mixed, with all ends
+                                    exact, none and some: through capi beside reference/
 bench compare [SEED COUNT [FIRST]]  generated cases through capi, the peer and reference/, from case FIRST on; with no
                                     FIRST all limits and all faults in large files and in fraction entries too
 bench soak [SEED CALLS]             calls in a random order through capi and reference/, each checked
 bench sets                          lists of up to a million cut sets through capi beside reference/: ratios, and the
                                     cost per set
+LIBRARY is a shared library of another commit, timed beside both in the same run.
 ";
 
 const CASES: u64 = 100_000;
@@ -36,12 +44,21 @@ const ENTRIES: [(Entries, &str); 4] = [
     (Entries::Fractions, "fractions"),
 ];
 
+/// The trees of `bench gates`.
+const GATES: [(Gates, &str); 3] = [(Gates::And, "AND"), (Gates::Or, "OR"), (Gates::Mixed, "mixed")];
+const GATE_NODES: [usize; 2] = [64, 1_023];
+const MARKS: [(Marks, &str); 3] = [(Marks::All, "all"), (Marks::None, "none"), (Marks::Mixed, "mixed")];
+
 fn main() -> ExitCode {
     let arguments: Vec<String> = std::env::args().skip(1).collect();
     let words: Vec<&str> = arguments.iter().map(String::as_str).collect();
     match run(&words) {
-        Some(true) => ExitCode::SUCCESS,
-        Some(false) => ExitCode::from(1),
+        Some(Ok(true)) => ExitCode::SUCCESS,
+        Some(Ok(false)) => ExitCode::from(1),
+        Some(Err(reason)) => {
+            eprintln!("bench: {reason}");
+            ExitCode::from(2)
+        }
         None => {
             eprint!("{USAGE}");
             ExitCode::from(2)
@@ -49,24 +66,27 @@ fn main() -> ExitCode {
     }
 }
 
-/// Whether all agreed, or nothing where the words are no command.
-fn run(words: &[&str]) -> Option<bool> {
-    match *words {
-        [] => Some(print_ratios()),
-        ["compare"] => Some(run_compare(Cases { seed: any_seed(), count: CASES, first: 0 })),
+/// Whether all agreed, or why a library cannot be opened; nothing where the words are no command.
+fn run(words: &[&str]) -> Option<Result<bool, String>> {
+    let agreed = match *words {
+        [] => print_ratios(None),
+        ["gates"] => print_gates(None),
+        ["gates", library] => return Some(load(library).map(|loaded| print_gates(Some(loaded)))),
+        ["compare"] => run_compare(Cases { seed: any_seed(), count: CASES, first: 0 }),
         ["compare", seed, count] => {
-            Some(run_compare(Cases { seed: seed.parse().ok()?, count: count.parse().ok()?, first: 0 }))
+            run_compare(Cases { seed: seed.parse().ok()?, count: count.parse().ok()?, first: 0 })
         }
-        ["compare", seed, count, first] => Some(run_compare(Cases {
-            seed: seed.parse().ok()?,
-            count: count.parse().ok()?,
-            first: first.parse().ok()?,
-        })),
-        ["sets"] => Some(print_sets()),
-        ["soak"] => Some(run_soak(any_seed(), SOAK_CALLS)),
-        ["soak", seed, calls] => Some(run_soak(seed.parse().ok()?, calls.parse().ok()?)),
-        _ => None,
-    }
+        ["compare", seed, count, first] => {
+            run_compare(Cases { seed: seed.parse().ok()?, count: count.parse().ok()?, first: first.parse().ok()? })
+        }
+        ["sets"] => print_sets(),
+        ["soak"] => run_soak(any_seed(), SOAK_CALLS),
+        ["soak", seed, calls] => run_soak(seed.parse().ok()?, calls.parse().ok()?),
+        ["help" | "--help"] => return None,
+        [library] => return Some(load(library).map(|loaded| print_ratios(Some(loaded)))),
+        _ => return None,
+    };
+    Some(Ok(agreed))
 }
 
 /// The second at which it is asked for.
@@ -108,18 +128,61 @@ fn run_soak(seed: u64, calls: u64) -> bool {
     outcome.is_ok() && tally.calls > 0
 }
 
+/// The proved library, linked or loaded, then another contestant, then the library of another commit.
+fn contestants(other: Contestant, loaded: Option<Loaded>) -> Vec<Contestant> {
+    match loaded {
+        Some(Loaded { capi, before }) => vec![Contestant::Library(capi), other, Contestant::Library(before)],
+        None => vec![Contestant::Library(CAPI), other],
+    }
+}
+
+/// The titles of the last two columns.
+fn before_titles(loaded: Option<Loaded>) -> &'static str {
+    loaded.map_or("", |_| "    before  capi/before")
+}
+
+/// The last two columns.
+fn before_columns(cost: &Cost) -> String {
+    match (cost.times.get(2), cost.ratios.get(1)) {
+        (Some(before), Some(ratio)) => format!(" {before:9.0} {ratio:12.2}"),
+        _ => String::new(),
+    }
+}
+
 /// Figures are for reading: nothing is held to them here.
-fn print_ratios() -> bool {
-    let sizes: Vec<Size> =
-        ENTRIES.iter().flat_map(|&(entries, _)| TREES.map(|(shape, nodes)| Size { shape, nodes, entries })).collect();
+fn print_ratios(loaded: Option<Loaded>) -> bool {
+    let sizes: Vec<ratios::Size> = ENTRIES
+        .iter()
+        .flat_map(|&(entries, _)| TREES.map(|(shape, nodes)| ratios::Size { shape, nodes, entries }))
+        .collect();
     let names = ENTRIES.iter().flat_map(|&(_, name)| TREES.map(|_| name));
+    let costs = ratios::costs(&sizes, &contestants(Contestant::Library(PEER), loaded));
     println!("                              a question, ns              a node, ns");
-    println!("entries       nodes events      capi      peer  capi/peer    capi    peer");
-    for ((size, name), cost) in sizes.iter().zip(names).zip(costs(&sizes)) {
-        let nodes = size.nodes as f64;
-        let Cost { events, capi, peer, ratio } = cost;
+    println!("entries       nodes events      capi      peer  capi/peer    capi    peer{}", before_titles(loaded));
+    for ((size, name), (events, cost)) in sizes.iter().zip(names).zip(costs) {
+        let (capi, peer, ratio, nodes) = (cost.times[0], cost.times[1], cost.ratios[0], size.nodes as f64);
         print!("{name:12} {:6} {events:6} {capi:9.0} {peer:9.0} {ratio:10.2}", size.nodes);
-        println!(" {:7.1} {:7.1}", capi / nodes, peer / nodes);
+        println!(" {:7.1} {:7.1}{}", capi / nodes, peer / nodes, before_columns(&cost));
+    }
+    true
+}
+
+fn print_gates(loaded: Option<Loaded>) -> bool {
+    let mut sizes = Vec::new();
+    let mut names = Vec::new();
+    for (gates, gates_name) in GATES {
+        for (nodes, (marks, marks_name)) in GATE_NODES.iter().flat_map(|&nodes| MARKS.map(|marks| (nodes, marks))) {
+            sizes.push(gates::Size { gates, nodes, marks });
+            names.push((gates_name, marks_name));
+        }
+    }
+    let costs = gates::costs(&sizes, &contestants(Contestant::Reference, loaded));
+    println!("                           a question, ns");
+    println!("gates   nodes  marks       capi  reference  capi/reference{}", before_titles(loaded));
+    for ((size, (gates, marks)), cost) in sizes.iter().zip(names).zip(costs) {
+        let (capi, reference, ratio) = (cost.times[0], cost.times[1], cost.ratios[0]);
+        print!("{gates:6} {:6}  {marks:6} {capi:9.0} {reference:10.0} {ratio:15.2}", size.nodes);
+        println!("{}", before_columns(&cost));
     }
     true
 }

@@ -3,7 +3,7 @@
 
 use crate::capi::{State, CAPI};
 use crate::expected;
-use crate::ratios::median;
+use crate::timing::median;
 use reference::cases::set_trees::{and_of_ors, set_count, under_gates};
 use reference::cut_sets::list_sets;
 use reference::describe::{tree_bytes, Node};

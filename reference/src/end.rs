@@ -49,8 +49,20 @@ fn is_true_zero(end: End) -> bool {
     end.exact && end.units == 0
 }
 
+/// A product of two numbers of at most `unit`, over the unit and marked where nothing was dropped. Rounded up it is the
+/// least whole number that, times the unit, reaches the product (02, CR 3).
+pub fn over_unit(product: u64, unit: u32, rounding: Rounding) -> End {
+    let unit = unit as u64;
+    let divided = match rounding {
+        Rounding::Down => product,
+        Rounding::Up => product + unit - 1,
+    };
+    let units = divided / unit;
+    End { units: units as u32, exact: units * unit == product }
+}
+
 pub fn step(running: End, factor: End, rounding: Rounding) -> End {
-    let product = rounded(running.units as u128 * factor.units as u128, U as u128, rounding);
+    let product = over_unit(running.units as u64 * factor.units as u64, U, rounding);
     let nothing_lost = running.exact && factor.exact && product.exact;
     End { units: product.units, exact: nothing_lost || is_true_zero(running) || is_true_zero(factor) }
 }
