@@ -51,8 +51,7 @@ fn is_true_zero(end: End) -> bool {
 
 /// A product of two numbers of at most `unit`, over the unit and marked where nothing was dropped. Rounded up it is the
 /// least whole number that, times the unit, reaches the product (02, CR 3).
-pub fn over_unit(product: u64, unit: u32, rounding: Rounding) -> End {
-    let unit = unit as u64;
+pub fn over_unit(product: u128, unit: u128, rounding: Rounding) -> End {
     let divided = match rounding {
         Rounding::Down => product,
         Rounding::Up => product + unit - 1,
@@ -62,7 +61,7 @@ pub fn over_unit(product: u64, unit: u32, rounding: Rounding) -> End {
 }
 
 pub fn step(running: End, factor: End, rounding: Rounding) -> End {
-    let product = over_unit(running.units as u64 * factor.units as u64, U, rounding);
+    let product = over_unit(running.units as u128 * factor.units as u128, U as u128, rounding);
     let nothing_lost = running.exact && factor.exact && product.exact;
     End { units: product.units, exact: nothing_lost || is_true_zero(running) || is_true_zero(factor) }
 }

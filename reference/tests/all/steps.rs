@@ -12,9 +12,9 @@ fn marked(units: u32) -> End {
 }
 
 /// By whole numbers: a number below 0 is no answer, so 0 has nothing below it to try.
-fn check(found: End, product: u64, unit: u32, rounding: Rounding) {
-    let times = |units: u64| units * unit as u64;
-    let units = found.units as u64;
+fn check(found: End, product: u128, unit: u128, rounding: Rounding) {
+    let times = |units: u128| units * unit;
+    let units = found.units as u128;
     match rounding {
         Rounding::Down => {
             assert!(times(units) <= product, "{units} of {unit} passes {product}");
@@ -31,7 +31,7 @@ fn check(found: End, product: u64, unit: u32, rounding: Rounding) {
 fn check_step(running: u32, factor: u32) {
     for rounding in [Rounding::Down, Rounding::Up] {
         let found = step(marked(running), marked(factor), rounding);
-        check(found, running as u64 * factor as u64, U, rounding);
+        check(found, running as u128 * factor as u128, U as u128, rounding);
     }
 }
 
@@ -61,9 +61,9 @@ fn products_of_random_numbers() {
 #[test]
 fn small_units() {
     for unit in 1..=40 {
-        for product in 0..=unit as u64 * unit as u64 {
-            let reaching = (0..).find(|units| units * unit as u64 >= product).unwrap();
-            let exact = reaching * unit as u64 == product;
+        for product in 0..=unit * unit {
+            let reaching = (0..).find(|units| units * unit >= product).unwrap();
+            let exact = reaching * unit == product;
             let passed = if exact { reaching } else { reaching - 1 };
             assert_eq!(over_unit(product, unit, Rounding::Up), End { units: reaching as u32, exact });
             assert_eq!(over_unit(product, unit, Rounding::Down), End { units: passed as u32, exact });
