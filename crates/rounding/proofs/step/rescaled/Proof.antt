@@ -1,5 +1,6 @@
 -- `rounding::step::rescaled` meets its contract.
 use borrow.Author.Needs.{needs}
+use Rattle.theory.specs.Unit.{billion}
 use Rattle.rounding.proofs.Steps.{down-is-rescaled, up-is-rescaled}
 use Rattle.rounding.proofs.step.rescaled.Statement.{statement}
 use Rattle.rounding.proofs.step.rescaled.Tie as tie
@@ -23,10 +24,10 @@ cast-result-2 : tie.Need-cast-result-2
 cast-result-2 c = search needs
 
 returns : tie.Need-returns
-returns c = search down-is-rescaled
+returns c = down-is-rescaled billion (c .before .before .args .product) (c .enum-told .given .1)
 
 returns-2 : tie.Need-returns-2
-returns-2 c = search up-is-rescaled
+returns-2 c = up-is-rescaled billion (c .before .before .args .product) (c .enum-told2 .given .1)
 
 pub rescaled-spec : {M : Type 1} → statement M
 rescaled-spec =
