@@ -43,7 +43,7 @@ module _ {U : ℕ} {links : List ℕ} {j : ℕ} {s : Slices} (stored : Input-sto
         input : Direction → End
         input w = stored-end w s (linked links j)
 
-module _ (U : ℕ) (positive : 0 < U) (kind : GateKind) (links : List ℕ) (inputs : ℕ) (s : Slices) where
+module _ (U : ℕ) (kind : GateKind) (links : List ℕ) (inputs : ℕ) (s : Slices) where
   -- the ends of link j's node as the fold goes by them
   abbrev input : ℕ → Direction → End
   input j w = both-seen kind U (λ v. stored-end v s (linked links j)) w
@@ -59,8 +59,8 @@ module _ (U : ℕ) (positive : 0 < U) (kind : GateKind) (links : List ℕ) (inpu
     pub in-units : BothInUnits U running
 
   -- the fold begins with the first input
-  pub running-start : 0 < inputs → (x : Enclosure) → x ≡ enclosure (input 0) → BothInUnits U x → Running x 1
-  running-start some x e units = record {
+  pub running-start : 0 < U → 0 < inputs → (x : Enclosure) → x ≡ enclosure (input 0) → BothInUnits U x → Running x 1
+  running-start positive some x e units = record {
     within = omega arith;
     ends-are = e ∙ same-ends _ _ (λ w. sym (step-from-start U w (input 0 w) positive));
     in-units = units;

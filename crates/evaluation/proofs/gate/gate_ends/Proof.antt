@@ -15,7 +15,7 @@ use Rattle.evaluation.proofs.gate.gate_ends.Tie as tie
 
 abbrev Inv-loop : tie.InvT-loop
 Inv-loop kind links inputs lower upper marks running₀ j₀ running j =
-    Running billion (lit< tt) (kind-as kind) links inputs (slices lower upper marks) running j
+    Running billion (kind-as kind) links inputs (slices lower upper marks) running j
 
 abbrev μ-loop : tie.MeasureT-loop
 μ-loop kind links inputs lower upper marks running₀ j₀ running j = inputs - j
@@ -27,9 +27,9 @@ seen-input-requires c κs =
 loop-holds : tie.Need-loop-holds Inv-loop μ-loop
 loop-holds c =
     let start = c .before .before .before .before .before in
-    running-start billion (lit< tt) (kind-as (start .args .kind)) (now (start .args .links)) (start .args .inputs)
-    (slices (now (start .args .lower)) (now (start .args .upper)) (now (start .args .marks))) (start .pre .some-input)
-    (c .seen-input .result) (c .seen-input .ensures .0) (c .seen-input .ensures .1)
+    running-start billion (kind-as (start .args .kind)) (now (start .args .links)) (start .args .inputs)
+    (slices (now (start .args .lower)) (now (start .args .upper)) (now (start .args .marks))) (lit< tt)
+    (start .pre .some-input) (c .seen-input .result) (c .seen-input .ensures .0) (c .seen-input .ensures .1)
 
 seen-input-requires-2 : tie.Need-seen-input-requires-2 Inv-loop μ-loop
 seen-input-requires-2 c κs =
@@ -60,7 +60,7 @@ returns : tie.Need-returns Inv-loop μ-loop
 returns c =
     let loop = c .before .before .loop in
     let start = c .before .before .before .before .before .before .before .before in
-    fold-answer billion (lit< tt) (kind-as (start .args .kind)) (now (start .args .links)) (start .args .inputs)
+    fold-answer billion (kind-as (start .args .kind)) (now (start .args .links)) (start .args .inputs)
     (slices (now (start .args .lower)) (now (start .args .upper)) (now (start .args .marks))) (loop .running) (loop .j)
     (loop .inv) (c .before .loop-test .left) (c .seen-ends .result) (c .seen-ends .ensures .0)
 
