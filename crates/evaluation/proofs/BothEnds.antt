@@ -6,26 +6,18 @@ use mathlib.Core.List.{List}
 use lib.ListN.{getD}
 use Rattle.theory.specs.FaultTree.{GateKind, all, any}
 use Rattle.theory.specs.Rounding.{Direction, down, up, End, end-complement, step}
-use Rattle.theory.specs.GateFold.{turned, by-kind, both-seen}
+use Rattle.theory.specs.GateFold.{by-kind, both-seen}
 use Rattle.rounding.specs.Marks.{exact-in}
 use Rattle.rounding.specs.Ends.{as-theory, as-code, enclosure, end-in, InUnits, BothInUnits}
 use Rattle.rounding.specs.declared.end.End.{End as Code-end}
 use Rattle.rounding.specs.declared.end.Enclosure.{Enclosure}
+use Rattle.rounding.proofs.Marks.{with-ends}
 use Rattle.evaluation.specs.Slices.{Slices, end-at, stored-end}
 
 -- an end as it is read
 pub end-read : (w : Direction) (values marks : List ℕ) (i : ℕ) (m : Bool) → m ≡ exact-in w (getD marks i 0)
     → record { value = getD values i 0; exact = m } ≡ as-code (end-at w values marks i)
 end-read w values marks i m e = ap (λ (m : Bool). record { value = getD values i 0; exact = m }) e
-
--- an interval by its ends
-pub with-ends : (f : Direction → End) {low high : Code-end} → low ≡ as-code (f down) → high ≡ as-code (f up)
-    → record { lower = low; upper = high } ≡ enclosure f
-with-ends f l h = ap₂ (λ (a b : Code-end). record { lower = a; upper = b }) l h
-
--- equal ends make one interval
-pub same-ends : (f g : Direction → End) → ((w : Direction) → f w ≡ g w) → enclosure f ≡ enclosure g
-same-ends f g h = with-ends g (ap as-code (h down)) (ap as-code (h up))
 
 -- both stored ends
 pub stored-both : (s : Slices) (i : ℕ) {low high : Code-end} → low ≡ as-code (stored-end down s i)
@@ -38,12 +30,6 @@ pub stepped-both : (U : ℕ) (r x : Enclosure) {low high : Code-end}
     → high ≡ as-code (step U up (as-theory (r .upper)) (as-theory (x .upper)))
     → record { lower = low; upper = high } ≡ enclosure (λ w. step U w (end-in w r) (end-in w x))
 stepped-both U r x l h = with-ends (λ w. step U w (end-in w r) (end-in w x)) l h
-
--- a direction turned twice is itself
-pub turned-twice : (kind : GateKind) (w : Direction) → turned kind (turned kind w) ≡ w
-turned-twice all w = refl
-turned-twice any down = refl
-turned-twice any up = refl
 
 -- an end whose value and mark are chosen by the kind of the gate is chosen by it
 end-chosen : (k : GateKind) (x y : Code-end) {v : ℕ} {m : Bool} → v ≡ by-kind k (x .value) (y .value)

@@ -9,15 +9,15 @@ use Rattle.theory.specs.FaultTree.{GateKind}
 use Rattle.theory.specs.Rounding.{Direction, down, up, End, step}
 use Rattle.theory.specs.GateFold.{seen, turned, both-seen, folded}
 use Rattle.theory.proofs.Rounded.{step-from-start}
+use Rattle.theory.proofs.GateFold.{turned-twice}
 use Rattle.fields.specs.Fields.{Is16}
 use Rattle.tree_file.specs.Format.{linked}
 use Rattle.rounding.specs.Ends.{enclosure, end-in, BothInUnits}
 use Rattle.rounding.specs.declared.end.Enclosure.{Enclosure}
-use Rattle.rounding.proofs.Marks.{end-in-enclosure}
+use Rattle.rounding.proofs.Marks.{end-in-enclosure, same-ends}
 use Rattle.evaluation.specs.Slices.{Slices, stored-end, Long}
 use Rattle.evaluation.specs.Phases.{fold-end}
 use Rattle.evaluation.specs.Requirements.{Input-stored}
-use Rattle.evaluation.proofs.BothEnds.{same-ends, turned-twice}
 
 module _ {U : ℕ} {links : List ℕ} {j : ℕ} {s : Slices} (stored : Input-stored U links j s) {node : ℕ}
     (n : Is16 node (linked links j)) where

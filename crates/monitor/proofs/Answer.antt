@@ -8,13 +8,12 @@ use Rattle.tree_file.specs.Format.{node-count}
 use Rattle.tree_file.specs.Tallies.{event-count}
 use Rattle.rounding.specs.Ends.{enclosure}
 use Rattle.rounding.specs.declared.end.Enclosure.{Enclosure}
-use Rattle.rounding.proofs.Marks.{end-in-enclosure}
+use Rattle.rounding.proofs.Marks.{end-in-enclosure, same-ends}
 use Rattle.opinion_sheet.specs.Format.{unit}
 use Rattle.evaluation.specs.Slices.{Slices, stored-end}
 use Rattle.evaluation.specs.Report.{node-end, node-enclosure, slices-after}
 use Rattle.evaluation.specs.Requirements.{Evaluable}
 use Rattle.evaluation.proofs.Places.{stored-at}
-use Rattle.evaluation.proofs.BothEnds.{same-ends}
 use Rattle.evaluation.proofs.Turns.{filled-at}
 use Rattle.evaluation.proofs.NodePromises.{node-bottom-up, node-interval-ends, node-kept, node-encloses}
 use Rattle.monitor.specs.Question.{root, report-of}

@@ -1,18 +1,28 @@
--- Each end is read off an enclosure, and each mark off a mark byte, as it was put in.
+-- An enclosure is its two ends; each is read off it, and each mark off a mark byte, as it was put in.
 use Prim.Native.Nat.{ℕ, _+_, _*_, _≤_}
-use mathlib.Core.Path.{_≡_, refl, ap₂}
+use mathlib.Core.Path.{_≡_, refl, ap, ap₂}
 use mathlib.Core.Bool.{Bool, true, false, cond}
 use native.Mathlib.Omega.{arith}
 use mir.Val.{boolByte}
 use Rattle.theory.specs.Rounding.{Direction, down, up, End}
+use Rattle.rounding.specs.declared.end.End.{End as Code-end}
 use Rattle.rounding.specs.declared.end.Enclosure.{Enclosure}
-use Rattle.rounding.specs.Ends.{enclosure, end-in}
+use Rattle.rounding.specs.Ends.{as-code, enclosure, end-in}
 use Rattle.rounding.specs.Marks.{mark-byte, exact-in}
 
 -- the end in a direction
 pub end-in-enclosure : (w : Direction) (f : Direction → End) → end-in w (enclosure f) ≡ f w
 end-in-enclosure down f = refl
 end-in-enclosure up f = refl
+
+-- an enclosure by its ends
+pub with-ends : (f : Direction → End) {low high : Code-end} → low ≡ as-code (f down) → high ≡ as-code (f up)
+    → record { lower = low; upper = high } ≡ enclosure f
+with-ends f l h = ap₂ (λ (a b : Code-end). record { lower = a; upper = b }) l h
+
+-- equal ends make one enclosure
+pub same-ends : (f g : Direction → End) → ((w : Direction) → f w ≡ g w) → enclosure f ≡ enclosure g
+same-ends f g h = with-ends g (ap as-code (h down)) (ap as-code (h up))
 
 -- a mark as a number is 0 or 1
 pub bit-at-most : (m : Bool) → boolByte m ≤ 1

@@ -18,10 +18,6 @@ pub record Gap (A d : ℕ) (m : Bool) (lo hi : ℕ) : Type 0 where
   pub marked : T m → lo ≡ hi
   pub unmarked : T (not m) → lo < hi
 
--- equal numbers have a gap of nothing
-pub exact-gap : {lo hi : ℕ} (d : ℕ) → lo ≡ hi → Gap 0 d true lo hi
-exact-gap d e = omega arith
-
 -- a gap may be allowed more
 pub gap-widen : {A B d lo hi : ℕ} {m : Bool} → A ≤ B → 0 < d → Gap A d m lo hi → Gap B d m lo hi
 gap-widen {A} {B} {d} {lo} {hi} l p g = record {

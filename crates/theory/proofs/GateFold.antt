@@ -5,7 +5,7 @@ use mathlib.Core.List.{List, [], _∷_, map}
 use native.Mathlib.Nat.{add-zero, add-suc, zero-add}
 use native.Mathlib.Omega.{arith}
 use Rattle.theory.specs.FaultTree.{GateKind, all, any, Tree}
-use Rattle.theory.specs.Rounding.{Direction, End, start, run, gate-end}
+use Rattle.theory.specs.Rounding.{Direction, down, up, End, start, run, gate-end}
 use Rattle.theory.specs.Rounding.{evaluated, all-evaluated}
 use Rattle.theory.specs.GateFold.{seen, turned, folded}
 use Rattle.theory.specs.NodeTable.{Node, event, joint, Table, inputs, build, tree-of, Has-link, Owns, Ranked}
@@ -27,6 +27,12 @@ pub gate-end-seen : (U : ℕ) (w : Direction) (k : GateKind) (xs : List End) →
     gate-end U w k xs ≡ seen k U (run U (turned k w) (start U) (map (seen k U) xs))
 gate-end-seen U w all xs = ap (run U w (start U)) (sym (map-same xs))
 gate-end-seen U w any xs = refl
+
+-- a direction turned twice is itself
+pub turned-twice : (k : GateKind) (w : Direction) → turned k (turned k w) ≡ w
+turned-twice all w = refl
+turned-twice any down = refl
+turned-twice any up = refl
 
 -- the ends of link a and the n after it
 abbrev listed : (ℕ → End) → ℕ → ℕ → List End

@@ -8,7 +8,7 @@ use lib.Dec.{eqb}
 use borrow.Author.Tests.{eq-eqb, ne-eqb}
 use Rattle.theory.specs.Rounding.{Direction, down, up, opposite}
 use Rattle.theory.proofs.Gap.{Gap, gap-widen, gap-join, gap-scale, gap-cancel, gap-complement}
-use Rattle.theory.proofs.Gap.{exact-gap, gap-zero-lower, gap-zero-upper}
+use Rattle.theory.proofs.Gap.{gap-zero-lower, gap-zero-upper}
 use Rattle.theory.proofs.GapProduct.{gap-product}
 
 -- of a number and the one that it stands in for, the lower
@@ -36,11 +36,6 @@ outward-mark {w = down} {v} {x} {m = true} g = eq-eqb v x (g .gap .marked tt)
 outward-mark {w = down} {v} {x} {m = false} g = ne-eqb v x (λ e. omega (arith, g .gap .unmarked tt))
 outward-mark {w = up} {v} {x} {m = true} g = eq-eqb v x (sym (g .gap .marked tt))
 outward-mark {w = up} {v} {x} {m = false} g = ne-eqb v x (λ e. omega (arith, g .gap .unmarked tt))
-
--- equal numbers have a gap of nothing
-pub outward-exact : (w : Direction) (d : ℕ) {v x : ℕ} → v ≡ x → Outward w 0 d true v x
-outward-exact down d e = record { gap = exact-gap d e }
-outward-exact up d e = record { gap = exact-gap d (sym e) }
 
 -- the allowance may grow
 pub outward-widen : {w : Direction} {A B d v x : ℕ} {m : Bool}

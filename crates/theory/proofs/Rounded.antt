@@ -11,9 +11,10 @@ use Rattle.theory.specs.Fraction.{Fraction, Probability, one, _⊗_, com
 use Rattle.theory.specs.Rounding.{Direction, opposite, carry, rounded, nothing-dropped, rescaled}
 use Rattle.theory.specs.Rounding.{End, start, end-complement, true-zero, step, cut-end}
 use Rattle.theory.proofs.Missing.{sub-mul, eqb-zero-times, either-of-or, both-of-and}
-use Rattle.theory.proofs.Outward.{Outward, outward-respects, outward-exact, outward-widen, outward-join}
+use Rattle.theory.proofs.Outward.{Outward, outward-respects, outward-widen, outward-join}
 use Rattle.theory.proofs.Outward.{outward-scale, outward-cancel, outward-complement, outward-product}
-use Rattle.theory.proofs.BottomUpProbability.{one-probability, product-probability}
+use Rattle.theory.proofs.FractionEqual.{one-times}
+use Rattle.theory.proofs.BottomUpProbability.{product-probability}
 use Rattle.theory.proofs.RoundingMeaning.{rounded-outward, rounded-whole, rounded-at-most, carry-at-most-one}
 use Rattle.theory.proofs.RoundingMeaning.{carry-whole, nothing-dropped-zero}
 use Rattle.theory.proofs.Rescaled.{rescaled-is-rounded, rescaled-at-most}
@@ -49,11 +50,6 @@ cut-end-gap-carry U w f p = record {
 -- that is less than 1 unit
 pub cut-end-gap : (U : ℕ) (w : Direction) (f : Fraction) → Probability f → EndGap U w 1 (cut-end U w f) f
 cut-end-gap U w f p = end-gap-widen (carry-at-most-one (f .num * U % f .den)) p (cut-end-gap-carry U w f p)
-
--- the number that AND starts with is 1
-pub start-gap : (U : ℕ) (w : Direction) → EndGap U w 0 (start U) one
-unfolding start
-start-gap U w = record { outward = outward-exact w 1 (omega arith); bounded = omega arith }
 
 -- the product of two ends stands in for the product of what they stand in for
 product-outward : {U A B : ℕ} {w : Direction} {r x : End} {f g : Fraction}
@@ -148,13 +144,10 @@ step-from-start U w x p = ap₂ (λ v m. record { value = v; exact = m }) whole 
     mark : x .exact && eqb (carry (U * x .value % U)) 0 || (eqb U 0 || x .exact && eqb (x .value) 0) ≡ x .exact
     mark = rw (carry-whole (x .value) U, ne-eqb U 0 (λ e. omega arith)) (mark-from-start (x .exact) _)
 
--- the first step of a gate rounds nothing
+-- so it is no further off than its factor
 pub step-start : {U A : ℕ} {w : Direction} {x : End} {g : Fraction}
-    → 0 < U → Probability g → EndGap U w A x g → EndGap U w A (step U w (start U) x) (one ⊗ g)
-unfolding start
-step-start {U} {w} {x} {g} i p k =
-    end-gap-widen (omega (arith, carry-whole (x .value) U)) (product-probability _ _ one-probability p)
-    (step-gap-carry i one-probability p (start-gap U w) k)
+    → 0 < U → EndGap U w A x g → EndGap U w A (step U w (start U) x) (one ⊗ g)
+step-start {U} {w} {x} {g} i k = rw (step-from-start U w x i, one-times g) k
 
 -- what is missing to 1 stands in for what is missing to 1, in the opposite direction
 pub complement-gap : {U A : ℕ} {w : Direction} {r : End} {f : Fraction}

@@ -37,7 +37,7 @@ pub product-gap : {U n : ℕ} {w : Direction} {xs : List End} {gs : List Fractio
     → 0 < U → 0 < n → All-probable gs → EndGaps U w n xs gs → EndGap U w (n - 1) (run U w (start U) xs) (product gs)
 product-gap i z q no-gaps = absurd (omega arith)
 product-gap i z q (add-gap g gs) = end-gap-respects (omega arith) (times-assoc _ _ _ ∙ one-times _)
-    (run-gap i (product-probability _ _ one-probability (q .0)) (q .1) (step-start i (q .0) g) gs)
+    (run-gap i (product-probability _ _ one-probability (q .0)) (q .1) (step-start i g) gs)
 
 -- U minus each end stands in for 1 minus each fraction
 pub complement-gaps : {U n : ℕ} {w : Direction} {xs : List End} {gs : List Fraction} → All-probable gs
