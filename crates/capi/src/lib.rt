@@ -1,5 +1,6 @@
 // The monitor's calls for C and Rust: numbers, lent slices and structs by value. include/nekbrod.h declares them.
 pub mod hand_in;
+pub mod hour;
 pub mod judge;
 pub mod minimal_cut_sets;
 pub mod question;

@@ -30,7 +30,7 @@ pub struct Reply {
 }
 
 // The reply for C of the monitor's state and outcome.
-fn reply_by(held: Held, outcome: Outcome) -> Reply
+pub fn reply_by(held: Held, outcome: Outcome) -> Reply
     ensures { λ r. ⌜ r ≡ reply-by held outcome ⌝ }
 {
     let state = lengths(held);

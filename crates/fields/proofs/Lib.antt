@@ -1,2 +1,4 @@
--- The fields of a part of a file.
+-- The fields of a part of a file; of two files with the same bytes; of a number that is written as its bytes.
 pub mod Parts
+pub mod Alike
+pub mod Written

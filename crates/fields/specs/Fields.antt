@@ -1,7 +1,7 @@
 -- The numbers that stand in the bytes of a file: unsigned, low byte first.
-use Prim.Native.Nat.{ℕ, _+_, _*_, _<_}
+use Prim.Native.Nat.{ℕ, _+_, _*_, _/_, _%_, _<_}
 use mathlib.Core.Path.{_≡_}
-use mathlib.Core.List.{List}
+use mathlib.Core.List.{List, [], _∷_}
 use lib.ListN.{getD}
 
 -- The byte at an offset; 0 past the end, where nothing is read: 01's rules 1 and 5 on a file's length come first.
@@ -19,6 +19,10 @@ field24 s at = byte s at + 256 * byte s (at + 1) + 65536 * byte s (at + 2)
 -- The 32-bit field at an offset.
 unfoldable pub field32 : List ℕ → ℕ → ℕ
 field32 s at = field16 s at + 65536 * field16 s (at + 2)
+
+-- The four bytes of a 32-bit number: `field32` reads them as that number (`field32-bytes32`).
+abbrev pub bytes32 : ℕ → List ℕ
+bytes32 n = n % 256 ∷ n / 256 % 256 ∷ n / 256 / 256 % 256 ∷ n / 256 / 256 / 256 % 256 ∷ []
 
 -- r is the number x, and a 16-bit one.
 pub record Is16 (r x : ℕ) : Type 0 where

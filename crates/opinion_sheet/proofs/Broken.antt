@@ -39,8 +39,8 @@ use Rattle.opinion_sheet.proofs.Accepted.{refused-found, accepted-absen
 use Rattle.opinion_sheet.proofs.BrokenRules.{outside-says, outside-shows, score-says, score-shows, term-says}
 use Rattle.opinion_sheet.proofs.BrokenRules.{term-shows, silence-says, silence-shows, order-says, order-shows}
 use Rattle.opinion_sheet.proofs.BrokenRules.{fractions-says, fractions-shows}
-use Rattle.opinion_sheet.proofs.Finds.{Case, Among, finds-same, finds-unless, finds-either, finds-last}
-use Rattle.opinion_sheet.proofs.Finds.{finds-rule, finds-among}
+use Rattle.refusals.proofs.Finds.{Case, Among, finds-same, finds-unless, finds-either, finds-last}
+use Rattle.refusals.proofs.Finds.{finds-rule, finds-among}
 
 -- The stage, the place and the number of a refusal, by what it is.
 staged : {q : Refusal} (m : Refusal) → q ≡ m → stage q ≡ stage m

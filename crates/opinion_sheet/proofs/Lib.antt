@@ -5,7 +5,6 @@ pub mod ScoreLaws
 pub mod TermLaws
 pub mod EntryLaws
 pub mod Accepted
-pub mod Finds
 pub mod BrokenRules
 pub mod Broken
 pub mod MeanOfOpinions

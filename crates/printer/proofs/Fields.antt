@@ -6,7 +6,7 @@ use mathlib.Core.List.{List, [], _∷_, _++_, append-nil}
 use lib.ListN.{length, take, drop, set, length-append, length-drop, drop-of-length-le}
 use lib.Seq.{take-length, drop-drop}
 use borrow.Rule.Slice.PartMut.{putMid, same-len-mid}
-use Rattle.fields.proofs.Parts.{part-from}
+use Rattle.fields.proofs.Parts.{part-from, copied-at}
 use Rattle.printer.specs.Line.{ended}
 use Rattle.printer.specs.Put.{Put, Room}
 use Rattle.printer.proofs.Puts.{put-byte}
@@ -51,22 +51,7 @@ module _ (word draft : List ℕ) (place after : ℕ) (room : Room (ended word af
       (count : ℕ) (e : count ≡ length word) where
     -- the word is put
     word-put : Put word place draft (putMid place (length draft - place) draft copied) (place + count)
-    word-put =
-        let past : length (drop place draft) ≤ length draft - place = omega (arith, length-drop place draft) in
-        let none : drop (length draft - place) (drop place draft) ≡ [] =
-        drop-of-length-le (drop place draft) {i = length draft - place} past in
-        record {
-          bytes =
-              ap (λ (xs : List ℕ). take place draft ++ (copied ++ xs)) none
-              ∙ ap (λ (xs : List ℕ). take place draft ++ xs)
-              (append-nil copied
-              ∙ copy
-              ∙ ap (λ (xs : List ℕ). xs ++ drop (length word) (take (length draft - place) (drop place draft)))
-              (take-length word)
-              ∙ ap (λ (xs : List ℕ). word ++ drop (length word) xs) part-whole
-              ∙ ap (λ (xs : List ℕ). word ++ xs) (drop-drop (length word) place draft));
-          end-is = ap (λ (n : ℕ). place + n) e;
-        }
+    word-put = record { bytes = copied-at draft word place copied copy; end-is = ap (λ (n : ℕ). place + n) e }
 
     -- the draft keeps its length
     same : length (putMid place (length draft - place) draft copied) ≡ length draft

@@ -28,3 +28,5 @@ numbered rule.ShortSlice e = omega arith
 numbered rule.ManyEvents e = omega arith
 numbered rule.ShortList e = omega arith
 numbered rule.WrongFractions e = omega arith
+numbered rule.WrongBook e = omega arith
+numbered rule.ShortBuffer e = omega arith

@@ -1,5 +1,5 @@
 -- Document 01's order read out: the turns of a tree file, of a sheet and of a question, each before the next; then
--- those of the list of minimal cut sets.
+-- those of the list of minimal cut sets, and of a question at an hour.
 use mathlib.Core.Path.{refl}
 use mathlib.Core.List.{List, [], _∷_}
 use lib.Dec.{lit<}
@@ -131,6 +131,39 @@ listing-turns =
 pub listing-rises : Rising listing-turns
 listing-rises =
     by-stage (lit< tt)
+    then by-stage (lit< tt)
+    then by-stage (lit< tt)
+    then last
+
+-- A question at an hour, of a book of two windows: 13, 21 to 24, 29 of a window's event and of its end, 30, 25 (02,
+-- request 4). A book of a wrong length has no windows, and is 29 at that length alone.
+abbrev pub hour-turns : List Refusal
+hour-turns =
+    refusal rule.WrongLevel 0
+    ∷ refusal rule.NoTree 0
+    ∷ refusal rule.NoSheet 0
+    ∷ refusal rule.Changed 0
+    ∷ refusal rule.Changed 1
+    ∷ refusal rule.OtherTree 0
+    ∷ refusal rule.WrongBook 0
+    ∷ refusal rule.WrongBook 6
+    ∷ refusal rule.WrongBook 10
+    ∷ refusal rule.WrongBook 16
+    ∷ refusal rule.ShortBuffer 0
+    ∷ refusal rule.ShortSlice 0
+    ∷ []
+
+pub hour-rises : Rising hour-turns
+hour-rises =
+    by-stage (lit< tt)
+    then by-stage (lit< tt)
+    then by-stage (lit< tt)
+    then by-place refl (lit< tt)
+    then by-stage (lit< tt)
+    then by-stage (lit< tt)
+    then by-place refl (lit< tt)
+    then by-place refl (lit< tt)
+    then by-place refl (lit< tt)
     then by-stage (lit< tt)
     then by-stage (lit< tt)
     then last

@@ -1,5 +1,5 @@
 -- The number of each rule: in document 01, 1 to 13 are from the input and 20 to 25 from the state; in document 02, 26
--- and 27 are of the list of minimal cut sets, and 28 is of a sheet.
+-- and 27 are of the list of minimal cut sets, 28 is of a sheet, and 29 and 30 are of work windows.
 use Prim.Native.Nat.{ℕ}
 use Rattle.refusals.specs.declared.rule.Rule.{Rule}
 use Rattle.refusals.specs.declared.rule.Rule.the-variants as rule
@@ -27,3 +27,5 @@ number-of rule.ShortSlice = 25
 number-of rule.ManyEvents = 26
 number-of rule.ShortList = 27
 number-of rule.WrongFractions = 28
+number-of rule.WrongBook = 29
+number-of rule.ShortBuffer = 30

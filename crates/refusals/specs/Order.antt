@@ -17,9 +17,10 @@ use Rattle.refusals.specs.declared.refusal.FirstFault.the-variants.{Foun
 abbrev pub refusal : Rule → ℕ → Refusal
 refusal rule place = record { rule = rule; place = place }
 
--- The number at whose turn a number comes: its own, but that 28 comes where 10 would (02, request 2).
+-- The number at whose turn a number comes: its own, but that 28 comes where 10 would (02, request 2), and 25 after 30
+-- (02, request 4).
 abbrev pub turn-of : ℕ → ℕ
-turn-of n = cond (eqb n 28) 10 n
+turn-of n = cond (eqb n 28) 10 (cond (eqb n 25) 31 n)
 
 -- The stages rise with the turns. What stands behind a header's counts, 6 to 12, is one stage: it is read as it
 -- stands.

@@ -48,6 +48,10 @@ pub enum Rule {
     ShortList,
     // Four fractions that fall or exceed 1, a denominator out of range, or a last byte that is not 0.
     WrongFractions,
+    // The length of a book of work windows, a window's event, or an end that is not after its first hour.
+    WrongBook,
+    // The buffer for the sheet of an hour is shorter than the held sheet.
+    ShortBuffer,
 }
 
 // The rule's number.
@@ -77,5 +81,7 @@ pub fn rule_number(rule: Rule) -> usize
         Rule::ManyEvents => 26,
         Rule::ShortList => 27,
         Rule::WrongFractions => 28,
+        Rule::WrongBook => 29,
+        Rule::ShortBuffer => 30,
     }
 }

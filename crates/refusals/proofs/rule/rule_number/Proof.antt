@@ -71,6 +71,12 @@ enum-told-21 c = c .match .keys21
 enum-told-22 : tie.Need-enum-told-22
 enum-told-22 c = c .match .keys22
 
+enum-told-23 : tie.Need-enum-told-23
+enum-told-23 c = c .match .keys23
+
+enum-told-24 : tie.Need-enum-told-24
+enum-told-24 c = c .match .keys24
+
 returns : tie.Need-returns
 returns c = sym (ap number-of (c .enum-told .given .1))
 
@@ -137,6 +143,12 @@ returns-21 c = sym (ap number-of (c .enum-told21 .given .1))
 returns-22 : tie.Need-returns-22
 returns-22 c = sym (ap number-of (c .enum-told22 .given .1))
 
+returns-23 : tie.Need-returns-23
+returns-23 c = sym (ap number-of (c .enum-told23 .given .1))
+
+returns-24 : tie.Need-returns-24
+returns-24 c = sym (ap number-of (c .enum-told24 .given .1))
+
 pub rule-number-spec : {M : Type 1} → statement M
 rule-number-spec =
     tie.close
@@ -163,6 +175,8 @@ rule-number-spec =
     enum-told-20
     enum-told-21
     enum-told-22
+    enum-told-23
+    enum-told-24
     returns
     returns-2
     returns-3
@@ -184,4 +198,6 @@ rule-number-spec =
     returns-19
     returns-20
     returns-21
-    returns-22)
+    returns-22
+    returns-23
+    returns-24)

@@ -1,0 +1,140 @@
+-- The entries of a sheet one after the other, each as held or replaced: their lengths and bytes, and one more replaced.
+use Prim.Native.Nat.{ℕ, zero, suc, _+_, _*_, _≤_, _<_}
+use mathlib.Core.Path.{_≡_, refl, sym, ap, subst, _∙_}
+use mathlib.Core.Bool.{Bool, true, false, _||_, cond}
+use mathlib.Core.List.{List, [], _∷_, _++_, append-assoc}
+use native.Mathlib.Decide.{ℕ-discrete}
+use native.Mathlib.Nat.{not-suc-le-zero}
+use native.Mathlib.Omega.{arith}
+use lib.Dec.{eqb}
+use lib.ListN.{length, take, drop, getD, length-append, length-drop, List·getD-append}
+use lib.Seq.{length-take-le, take-add, drop-drop, take-at, drop-at, getD-append-add}
+use borrow.Author.Tests.{eq-eqb, ne-eqb}
+use Rattle.opinion_sheet.specs.Format.{header-length, entry-length, entry-at, event-count, required-length, unit}
+use Rattle.work_windows.specs.Sheet.{certain-entry, written-entry, written-entries}
+use Rattle.work_windows.proofs.OutOfService.{or-false, or-true}
+
+-- the certain entry is as long as any
+pub certain-length : (U : ℕ) → length (certain-entry U) ≡ 17
+certain-length U = refl
+
+-- which events are out of service with one event more
+abbrev pub also : (ℕ → Bool) → ℕ → ℕ → Bool
+also out e x = out x || eqb e x
+
+module _ (sheet : List ℕ) where
+  -- no entries, and one more
+  pub entries-none : (out : ℕ → Bool) → written-entries sheet out 0 ≡ []
+  unfolding written-entries
+  entries-none out = refl
+
+  pub entries-next : (out : ℕ → Bool) (n : ℕ) → written-entries sheet out (suc n)
+      ≡ written-entries sheet out n ++ written-entry sheet out n
+  unfolding written-entries
+  entries-next out n = refl
+
+  -- only which of the first n events are out of service counts
+  pub entries-alike : (out other : ℕ → Bool) (n : ℕ) → ((x : ℕ) → x < n → out x ≡ other x)
+      → written-entries sheet out n ≡ written-entries sheet other n
+  entries-alike out other zero h = entries-none out ∙ sym (entries-none other)
+  entries-alike out other (suc n) h =
+      rw (entries-next out n, entries-next other n, entries-alike out other n (λ x l. h x (omega arith)), h n (omega arith))
+
+  -- where none is, they are as held
+  pub entries-held : (n : ℕ) → written-entries sheet (λ x. false) n ≡ take (17 * n) (drop header-length sheet)
+  entries-held zero = entries-none (λ x. false)
+  entries-held (suc n) =
+      let more : 17 * n + 17 ≡ 17 * suc n = omega arith in
+      entries-next (λ x. false) n
+      ∙ ap (λ (xs : List ℕ). xs ++ take 17 (drop (26 + 17 * n) sheet)) (entries-held n)
+      ∙ ap (λ (xs : List ℕ). take (17 * n) (drop 26 sheet) ++ take 17 xs) (sym (drop-drop (17 * n) 26 sheet))
+      ∙ sym (take-add (17 * n) 17 (drop 26 sheet))
+      ∙ ap (λ (m : ℕ). take m (drop 26 sheet)) more
+
+  module _ (formed : length sheet ≡ required-length sheet) where
+    entry-by : (b : Bool) (e : ℕ) → e < event-count sheet
+        → length (cond b (certain-entry (unit sheet)) (take 17 (drop (entry-at sheet e) sheet))) ≡ 17
+    entry-by true e l = certain-length (unit sheet)
+    entry-by false e l =
+        length-take-le 17 (drop (entry-at sheet e) sheet) (omega (arith, length-drop (entry-at sheet e) sheet))
+
+    -- an entry is 17 bytes long
+    pub entry-long : (out : ℕ → Bool) (e : ℕ) → e < event-count sheet → length (written-entry sheet out e) ≡ 17
+    entry-long out e l = entry-by (out e) e l
+
+    pub entries-long : (out : ℕ → Bool) (n : ℕ) → n ≤ event-count sheet
+        → length (written-entries sheet out n) ≡ 17 * n
+    entries-long out zero l = ap length (entries-none out)
+    entries-long out (suc n) l =
+        ap length (entries-next out n)
+        ∙ length-append (written-entries sheet out n) (written-entry sheet out n)
+        ∙ omega (arith, entries-long out n (omega arith), entry-long out n (omega arith))
+
+    -- a byte of an entry
+    pub entry-byte : (out : ℕ → Bool) (n : ℕ) → n ≤ event-count sheet → (e j : ℕ) → e < n → j < 17
+        → getD (written-entries sheet out n) (17 * e + j) 0 ≡ getD (written-entry sheet out e) j 0
+    entry-byte out zero l e j le lj = absurd (not-suc-le-zero le)
+    entry-byte out (suc n) l e j le lj =
+        ap (λ (xs : List ℕ). getD xs (17 * e + j) 0) (entries-next out n)
+        ∙ go (λ k. entry-byte out n (omega arith) e j k lj) (ℕ-discrete e n)
+      where
+        long : length (written-entries sheet out n) ≡ 17 * n
+        long = entries-long out n (omega arith)
+
+        go : (e < n → getD (written-entries sheet out n) (17 * e + j) 0 ≡ getD (written-entry sheet out e) j 0)
+            → Dec (e ≡ n) → getD (written-entries sheet out n ++ written-entry sheet out n) (17 * e + j) 0
+            ≡ getD (written-entry sheet out e) j 0
+        go earlier (yes same) =
+            let place : 17 * e + j ≡ length (written-entries sheet out n) + j = omega (arith, long) in
+            ap (λ (p : ℕ). getD (written-entries sheet out n ++ written-entry sheet out n) p 0) place
+            ∙ getD-append-add (written-entries sheet out n) (written-entry sheet out n) j 0
+            ∙ ap (λ (x : ℕ). getD (written-entry sheet out x) j 0) (sym same)
+        go earlier (no other) =
+            List·getD-append (written-entries sheet out n) (written-entry sheet out n) 0 (17 * e + j) (omega (arith, long))
+            ∙ earlier (omega arith)
+
+    -- the certain entry in the place of one event's
+    pub entry-replaced : (out : ℕ → Bool) (e n : ℕ) → e < n → n ≤ event-count sheet → (rest : List ℕ)
+        → take (17 * e) (written-entries sheet out n ++ rest)
+        ++ (certain-entry (unit sheet) ++ drop (17 * e + 17) (written-entries sheet out n ++ rest))
+        ≡ written-entries sheet (also out e) n ++ rest
+    entry-replaced out e zero le l rest = absurd (not-suc-le-zero le)
+    entry-replaced out e (suc n) le l rest =
+        ap put opened
+        ∙ go (λ k. entry-replaced out e n k (omega arith) (written-entry sheet out n ++ rest)) (ℕ-discrete e n)
+        ∙ sym (append-assoc (written-entries sheet (also out e) n) (written-entry sheet (also out e) n) rest)
+        ∙ ap (λ (xs : List ℕ). xs ++ rest) (sym (entries-next (also out e) n))
+      where
+        before : List ℕ
+        before = written-entries sheet out n
+
+        next : List ℕ
+        next = written-entry sheet out n
+
+        -- the certain entry put into bytes at the event's place
+        put : List ℕ → List ℕ
+        put xs = take (17 * e) xs ++ (certain-entry (unit sheet) ++ drop (17 * e + 17) xs)
+
+        opened : written-entries sheet out (suc n) ++ rest ≡ before ++ (next ++ rest)
+        opened = ap (λ (xs : List ℕ). xs ++ rest) (entries-next out n) ∙ append-assoc before next rest
+
+        go : (e < n → put (before ++ (next ++ rest)) ≡ written-entries sheet (also out e) n ++ (next ++ rest))
+            → Dec (e ≡ n) → put (before ++ (next ++ rest))
+            ≡ written-entries sheet (also out e) n ++ (written-entry sheet (also out e) n ++ rest)
+        go earlier (yes same) =
+            let long : length before ≡ 17 * e = entries-long out n (omega arith) ∙ ap (λ (m : ℕ). 17 * m) (sym same) in
+            let both : length (before ++ next) ≡ 17 * e + 17 =
+            length-append before next ∙ omega (arith, long, entry-long out n (omega arith)) in
+            let past : drop (17 * e + 17) (before ++ (next ++ rest)) ≡ rest =
+            ap (drop (17 * e + 17)) (sym (append-assoc before next rest)) ∙ drop-at (before ++ next) rest _ both in
+            let same-before : before ≡ written-entries sheet (also out e) n =
+            entries-alike out (also out e) n (λ x k. sym (rw (ne-eqb e x (λ q. omega arith)) (or-false (out x)))) in
+            let now-certain : certain-entry (unit sheet) ≡ written-entry sheet (also out e) n =
+            rw (eq-eqb e n same, or-true (out n)) refl in
+            (λ i. take-at before (next ++ rest) (17 * e) long i ++ (certain-entry (unit sheet) ++ past i))
+            ∙ (λ i. same-before i ++ (now-certain i ++ rest))
+        go earlier (no other) =
+            let same-next : next ≡ written-entry sheet (also out e) n =
+            rw (ne-eqb e n other, or-false (out n)) refl in
+            earlier (omega arith)
+            ∙ ap (λ (xs : List ℕ). written-entries sheet (also out e) n ++ (xs ++ rest)) same-next
