@@ -60,7 +60,7 @@ fn print_report(report: Report) {
     print_events(report.events);
 }
 
-fn print_outcome(outcome: Outcome) {
+pub fn print_outcome(outcome: Outcome) {
     match outcome {
         Outcome::Answered(report) => print_report(report),
         Outcome::Refused(refusal) => print_refusal(refusal),

@@ -20,6 +20,11 @@ pub enum Call {
     Count,
     // The places of the lent slice.
     CutSets(usize),
+    // The length of the book that follows.
+    Book(usize),
+    // The hour, and the length of the buffer for its sheet.
+    Hour(u32, usize),
+    HourQuestion(Question),
     // The list is at its end, or what follows is no call.
     End,
 }
@@ -33,6 +38,17 @@ pub struct Question {
     pub marks: usize,
 }
 
+// A question by its numbers.
+fn question_of(k: u32, n: u32, lower: u32, upper: u32, marks: u32) -> Question {
+    Question {
+        k,
+        n,
+        lower: lower as usize,
+        upper: upper as usize,
+        marks: marks as usize,
+    }
+}
+
 // The call that a byte and its numbers spell.
 fn call_of(which: u8, one: u32, two: u32, three: u32, four: u32, five: u32) -> Call {
     match which {
@@ -44,15 +60,12 @@ fn call_of(which: u8, one: u32, two: u32, three: u32, four: u32, five: u32) -> C
         6 => Call::Sheet(one as usize),
         7 => Call::Drop,
         8 => Call::Judge(one, two),
-        9 => Call::Question(Question {
-            k: one,
-            n: two,
-            lower: three as usize,
-            upper: four as usize,
-            marks: five as usize,
-        }),
+        9 => Call::Question(question_of(one, two, three, four, five)),
         10 => Call::Count,
         11 => Call::CutSets(one as usize),
+        12 => Call::Book(one as usize),
+        13 => Call::Hour(one, two as usize),
+        14 => Call::HourQuestion(question_of(one, two, three, four, five)),
         _ => Call::End,
     }
 }

@@ -5,6 +5,11 @@ fn with_place(sum: u64, place: u64) -> u64 {
     (sum % 4294967291 * 257 + place % 4294967291) % 4294967291
 }
 
+// The checksum of four numbers.
+pub fn row_sum(one: u64, two: u64, three: u64, four: u64) -> u64 {
+    with_place(with_place(with_place(with_place(0, one), two), three), four)
+}
+
 pub fn of_byte(byte: u8) -> u64 {
     byte as u64
 }

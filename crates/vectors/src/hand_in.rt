@@ -16,7 +16,7 @@ fn print_verdict(verdict: Verdict) {
 }
 
 // Reads a file of that length from standard input to the front of `file`; its length.
-fn read_file(length: usize, file: &mut [u8]) -> usize
+pub fn read_file(length: usize, file: &mut [u8]) -> usize
     ensures { λ r. ⌜ Counts r (now (file .exit)) ⌝ }
 {
     let room = front(length, file);

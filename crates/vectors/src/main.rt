@@ -7,6 +7,7 @@ mod desk;
 mod fill;
 mod front;
 mod hand_in;
+mod hours;
 mod print;
 mod run;
 mod set_sums;
@@ -15,5 +16,6 @@ mod sets;
 fn main() {
     let mut tree = [0u8; 7200];
     let mut sheet = [0u8; 17500];
-    run::run(&mut tree, &mut sheet);
+    let mut book = [0u8; 2600];
+    run::run(&mut tree, &mut sheet, &mut book);
 }

@@ -2,15 +2,20 @@
 use crate::ask::call_judge;
 use crate::ask::call_question;
 use crate::call::Call;
+use crate::call::Question;
 use crate::call::read_call;
 use crate::desk::Desk;
 use crate::desk::empty_desk;
 use crate::desk::poke;
 use crate::desk::set_stores;
+use crate::desk::with_hour;
+use crate::desk::with_stores;
 use crate::front::front;
 use crate::hand_in::call_drop;
 use crate::hand_in::call_sheet;
 use crate::hand_in::call_tree;
+use crate::hand_in::read_file;
+use crate::hours::call_hour_question;
 use crate::sets::call_count;
 use crate::sets::call_cut_sets;
 use monitor::state::State;
@@ -71,23 +76,47 @@ fn on_stores(desk: Desk, call: Call, tree: &mut [u8], sheet: &mut [u8]) -> Desk 
         &mut tree[..tree_store],
         &mut sheet[..sheet_store],
     );
-    Desk {
-        state,
-        tree_store,
-        sheet_store,
-    }
+    with_stores(desk, state, tree_store, sheet_store)
 }
 
-// The desk for the next call.
-fn desk_after(desk: Desk, call: Call, tree: &mut [u8], sheet: &mut [u8]) -> Desk {
+// A question at the desk's hour, on the fronts that are the stores and the book.
+fn at_hour(desk: Desk, question: Question, tree: &[u8], sheet: &[u8], book: &[u8]) -> Desk {
+    let tree_store = front(desk.tree_store, tree);
+    let sheet_store = front(desk.sheet_store, sheet);
+    let windows = front(desk.book, book);
+    let state = call_hour_question(
+        desk,
+        question,
+        &tree[..tree_store],
+        &sheet[..sheet_store],
+        &book[..windows],
+    );
+    with_stores(desk, state, tree_store, sheet_store)
+}
+
+// The desk after a setting of the hour or a question at it; any other call is one on the stores.
+fn hour_after(desk: Desk, call: Call, tree: &mut [u8], sheet: &mut [u8], book: &mut [u8]) -> Desk {
     match call {
-        Call::Stores(one, two) => set_stores(desk, one, two, tree, sheet),
+        Call::Book(length) => {
+            let got = read_file(length, book);
+            with_hour(desk, got, desk.hour, desk.buffer)
+        }
+        Call::Hour(hour, buffer) => with_hour(desk, desk.book, hour, buffer),
+        Call::HourQuestion(question) => at_hour(desk, question, tree, sheet, book),
         _ => on_stores(desk, call, tree, sheet),
     }
 }
 
+// The desk for the next call.
+fn desk_after(desk: Desk, call: Call, tree: &mut [u8], sheet: &mut [u8], book: &mut [u8]) -> Desk {
+    match call {
+        Call::Stores(one, two) => set_stores(desk, one, two, tree, sheet),
+        _ => hour_after(desk, call, tree, sheet, book),
+    }
+}
+
 // A proved loop has to end, so there is a most number of calls.
-pub fn run(tree: &mut [u8], sheet: &mut [u8]) {
+pub fn run(tree: &mut [u8], sheet: &mut [u8], book: &mut [u8]) {
     let mut desk = empty_desk();
     let mut left: u64 = 100000;
     while left > 0 {
@@ -95,7 +124,7 @@ pub fn run(tree: &mut [u8], sheet: &mut [u8]) {
         if let Call::End = call {
             return;
         }
-        desk = desk_after(desk, call, tree, sheet);
+        desk = desk_after(desk, call, tree, sheet, book);
         left -= 1;
     }
 }
