@@ -95,7 +95,8 @@ def run(home, words):
 def hour_words(words):
     """The book, the hour and the three words after them."""
     given = {}
-    while words and words[0] in OPTIONS:
+    # Three words after an option are no options, whatever the files are called.
+    while words and words[0] in OPTIONS and not (given and len(words) == 3):
         option = words[0]
         if option in given:
             raise Stop(2, f"{option} is given twice; see nekbrod --help")
