@@ -1,4 +1,5 @@
-# What is put to a program, a pair of files and a number of levels or a tree file alone, and what the program prints.
+# What is put to a program, a pair of files and a number of levels, with a book and an hour or without, or a tree file
+# alone, and what the program prints.
 import os
 import re
 import subprocess
@@ -7,8 +8,9 @@ import tempfile
 from desk.child import Child, status_in_words
 from desk.screen import Stop
 
-# The largest number of the input's fields, which have 16 bits.
+# The largest number of the input's fields, which have 16 bits, and of its hour, which has 32.
 LARGEST = 65535
+LAST_HOUR = 4294967295
 
 
 # The most sets that the cut set printer lists.
@@ -18,8 +20,11 @@ MOST_SETS = 100000
 class Pair:
     """A tree file, an opinion sheet and a number of levels, for the level printer."""
 
+    # What the input has between its lengths and its files.
+    hour_field = b""
+
     def __init__(self, tree_name, sheet_name, levels_word):
-        self.levels = read_levels(levels_word)
+        self.levels = read_number("number of levels", levels_word, LARGEST)
         self.tree_name, self.tree = tree_name, read_file("tree file", tree_name)
         self.sheet_name, self.sheet = sheet_name, read_file("opinion sheet", sheet_name)
 
@@ -27,8 +32,21 @@ class Pair:
         return [("tree file", self.tree_name, self.tree), ("opinion sheet", self.sheet_name, self.sheet)]
 
     def program_input(self):
-        lengths = (self.levels, len(self.tree), len(self.sheet))
-        return b"".join(number.to_bytes(2, "little") for number in lengths) + self.tree + self.sheet
+        files = [data for _, _, data in self.files()]
+        numbers = (self.levels, *map(len, files))
+        return b"".join(number.to_bytes(2, "little") for number in numbers) + self.hour_field + b"".join(files)
+
+
+class HourPair(Pair):
+    """A pair with a book of work windows and an hour, for the hour printer."""
+
+    def __init__(self, book_name, hour_word, *pair):
+        self.hour_field = read_number("hour", hour_word, LAST_HOUR).to_bytes(4, "little")
+        super().__init__(*pair)
+        self.book_name, self.book = book_name, read_file("book", book_name)
+
+    def files(self):
+        return [*super().files(), ("book", self.book_name, self.book)]
 
 
 class TreeFile:
@@ -46,13 +64,13 @@ class TreeFile:
         return self.tree
 
 
-def read_levels(word):
-    """A number from 0 to 65,535; the level printer judges it."""
+def read_number(what, word, largest):
+    """A number from 0 to the largest that its field can have; the program judges it."""
     if not re.fullmatch("[0-9]+", word):
-        raise Stop(2, f"the number of levels is a number, not '{word}'")
+        raise Stop(2, f"the {what} is a number, not '{word}'")
     digits = word.lstrip("0") or "0"
-    if len(digits) > 5 or int(digits) > LARGEST:
-        raise Stop(2, f"the number of levels is at most {LARGEST}, not {word}")
+    if len(digits) > len(str(largest)) or int(digits) > largest:
+        raise Stop(2, f"the {what} is at most {largest}, not {word}")
     return int(digits)
 
 
@@ -92,11 +110,11 @@ def run(title, program, asked, signals, **more):
     return text
 
 
-def levels_text(program, pair, signals):
-    """The level printer's text: levels, or one line of a refusal."""
-    text = run("the level printer", program, pair, signals)
+def levels_text(title, program, pair, signals):
+    """The text of the level printer or the hour printer: levels, or one line of a refusal."""
+    text = run(title, program, pair, signals)
     if not text.startswith((b"tree ", b"refused ", b"input")):
-        raise Stop(3, "the level printer gave neither levels nor a refusal")
+        raise Stop(3, f"{title} gave neither levels nor a refusal")
     return text
 
 

@@ -22,6 +22,7 @@ UNCHANGED = "(unchanged since it was last proved)"
 # A program: its crate, its name in a sentence, and what it prints one of.
 Program = collections.namedtuple("Program", "crate title prints")
 LEVELS = Program("levels", "the level printer", "level")
+HOUR_LEVELS = Program("hour_levels", "the hour printer", "level")
 CUT_SETS = Program("cut_set_lines", "the cut set printer", "cut set")
 
 

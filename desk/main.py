@@ -3,8 +3,8 @@ import os
 import signal
 import sys
 
-from desk.asked import MOST_SETS, Pair, TreeFile, levels_text, sets_text
-from desk.build import CUT_SETS, LEVELS, up_to_date
+from desk.asked import MOST_SETS, HourPair, Pair, TreeFile, levels_text, sets_text
+from desk.build import CUT_SETS, HOUR_LEVELS, LEVELS, up_to_date
 from desk.child import Signals
 from desk.refusal import explain
 from desk.screen import Stop, is_terminal, print_text, say
@@ -15,6 +15,8 @@ nekbrod: all levels of a fault tree, and its minimal cut sets, proved
   ./nekbrod                             the shipped example examples/fuel_supply, 10 levels
   ./nekbrod levels TREE SHEET LEVELS    a tree file, an opinion sheet, and a number of levels from 1 to 1000
   ./nekbrod TREE SHEET LEVELS           the same
+  ./nekbrod levels --windows BOOK --hour H TREE SHEET LEVELS
+                                        the same at hour H, with what a book of work windows has out of service then
   ./nekbrod cut-sets TREE               the minimal cut sets of a tree file
   ./nekbrod --help                      this text
   ./nekbrod --version                   the version
@@ -28,13 +30,17 @@ Standard output has a header, and then a line for each level k from LEVELS down 
 The ends enclose the probability of the top event, in billionths. An end marked = is exact; one marked ~ is
 rounded outward.
 
+A book has up to 256 work windows, each a basic event, a first hour and an end hour. Hours are counted since
+commissioning; H is a number from 0 to 4294967295. A window is open at H if its first hour is not after H and its end
+hour is after H. Each event in an open window is counted as failed with certainty, all else as the sheet has it.
+
 For cut-sets the header has the number of minimal cut sets, and each line after it is one: the numbers of its basic
 events, rising. If all of these fail, the top event fails; fewer of them do not suffice. The tree may have up to 64
 basic events. More than 100000 sets are counted, and not listed. The order of the lines is left free.
 
 Or standard output has one line, 'refused R at P' or 'input': standard error then says which rule is broken, in
-which file and where, and what stands there. Records, links, entries and experts are counted from 0.
-docs/REFUSALS.md has the rules.
+which file and where, and what stands there. Records, links, entries, experts and windows are counted from 0.
+docs/REFUSALS.md has the rules, docs/FORMATS.md the files.
 
 Exit status: 0 levels or cut sets were printed; 1 a file or the number of levels was refused; 2 bad arguments;
 3 a program could not be built or run, or its text not be written; 4 the cut sets were counted, and are too many to
@@ -42,6 +48,9 @@ be listed; 128 + n ended by the signal n (INT, TERM, HUP or QUIT), with all that
 """
 
 EXAMPLE = ("examples/fuel_supply/tree.ftf", "examples/fuel_supply/sheet.fts", "10")
+
+# The options of a question for an hour, with their words.
+OPTIONS = {"--windows": "BOOK", "--hour": "H"}
 
 
 def main(home, words):
@@ -67,16 +76,40 @@ def run(home, words):
     if not words:
         say("examples/fuel_supply with 10 levels (./nekbrod TREE SHEET LEVELS for your own; ./nekbrod --help)")
         tree, sheet, levels = EXAMPLE
-        return levels_of(home, os.path.join(home, tree), os.path.join(home, sheet), levels)
-    if len(words) == 4 and words[0] == "levels":
-        return levels_of(home, *words[1:])
+        return levels_of(home, LEVELS, Pair(os.path.join(home, tree), os.path.join(home, sheet), levels))
+    if len(words) == 4 and words[0] == "levels" and (words[1] not in OPTIONS or os.path.exists(words[1])):
+        return levels_of(home, LEVELS, Pair(*words[1:]))
+    if words[0] == "levels" and words[1:2] and words[1] in OPTIONS:
+        return levels_of(home, HOUR_LEVELS, HourPair(*hour_words(words[1:])))
     if len(words) == 2 and words[0] == "cut-sets":
         return sets_of(home, words[1])
-    if len(words) == 3 and (words[0] != "cut-sets" or os.path.exists(words[0])):
-        return levels_of(home, *words)
+    if len(words) == 3 and (words[0] not in ("cut-sets", *OPTIONS) or os.path.exists(words[0])):
+        return levels_of(home, LEVELS, Pair(*words))
     if words[0] == "cut-sets":
         raise Stop(2, "nekbrod cut-sets takes a tree file alone; see nekbrod --help")
+    if any(word in OPTIONS for word in words):
+        raise Stop(2, "--windows BOOK and --hour H stand right after the word levels; see nekbrod --help")
     raise Stop(2, "nekbrod takes a tree file, an opinion sheet and a number of levels, or nothing; see nekbrod --help")
+
+
+def hour_words(words):
+    """The book, the hour and the three words after them."""
+    given = {}
+    # Three words after an option are no options, whatever the files are called.
+    while words and words[0] in OPTIONS and not (given and len(words) == 3):
+        option = words[0]
+        if option in given:
+            raise Stop(2, f"{option} is given twice; see nekbrod --help")
+        if len(words) == 1:
+            raise Stop(2, f"{option} takes a word, {OPTIONS[option]}, and there is none; see nekbrod --help")
+        given[option], words = words[1], words[2:]
+    for option in OPTIONS:
+        if option not in given:
+            raise Stop(2, f"--windows BOOK and --hour H go together, and {option} is missing; see nekbrod --help")
+    if len(words) != 3:
+        raise Stop(2, "after --windows BOOK and --hour H come a tree file, an opinion sheet and a number of levels; "
+                   "see nekbrod --help")
+    return (*map(given.get, OPTIONS), *words)
 
 
 def version(home):
@@ -87,11 +120,10 @@ def version(home):
         raise Stop(3, f"the version is not known: {error}") from None
 
 
-def levels_of(home, tree, sheet, levels):
-    pair = Pair(tree, sheet, levels)
+def levels_of(home, printer, pair):
     with Signals() as signals:
-        with up_to_date(LEVELS, home, signals) as program:
-            text = levels_text(program, pair, signals)
+        with up_to_date(printer, home, signals) as program:
+            text = levels_text(printer.title, program, pair, signals)
         signals.check()
     print_text(text)
     if not text.startswith(b"tree "):

@@ -1,5 +1,5 @@
 # A refusal as a sentence: its rule in the words of docs/REFUSALS.md, its file, and what stands at its place.
-# Records, links, entries and experts are counted from 0, as in docs/FORMATS.md.
+# Records, links, entries, experts and windows are counted from 0, as in docs/FORMATS.md.
 import collections
 import os
 import re
@@ -7,6 +7,7 @@ import re
 LONGEST_TREE, LONGEST_SHEET = 7175, 17434
 TREE_HEADER, SHEET_HEADER = 9, 26
 RECORD, ENTRY, EXPERTS = 5, 17, 16
+LONGEST_BOOK, WINDOW, FIRST_HOUR, END_HOUR = 2560, 10, 2, 6
 MOST_NODES, MOST_EVENTS, UNIT, MOST_DENOMINATOR = 1024, 64, 1000000000, 1000000
 GATES = {1: "AND", 2: "OR"}
 
@@ -51,22 +52,24 @@ def row_of(rows, number, part):
 
 
 def too_long(asked):
-    """What the level printer does not let in at all."""
+    """What the level printer and the hour printer do not let in at all."""
     faults = []
     for (what, name, data), most in zip(asked.files(), (LONGEST_TREE, LONGEST_SHEET)):
         if len(data) > most:
             faults.append(f"the {what} {name} has {len(data)} bytes; allowed: at most {most}")
-    return "; ".join(faults) or "the level printer did not take its input"
+    return "; ".join(faults) or "the program did not take its input"
 
 
 def what_stands(asked, number, place):
     """Where the refusal is, what is found there, and the words for its part of the file."""
     files = [(what, name, READERS[what](data)) for what, name, data in asked.files()]
     readers = [file for _, _, file in files]
+    for book in readers[2:]:
+        book.events = readers[0].events()
     if number == 13 and asked.levels is not None:
         return "The number of levels", f" is {asked.levels}; allowed: 1 to 1000", ""
-    if number == 24 and len(readers) == 2:
-        return "The two files", f" do not belong together: {two_files(*readers)}", ""
+    if number == 24 and len(readers) > 1:
+        return "The two files", f" do not belong together: {two_files(*readers[:2])}", ""
     if number == 26:
         found = f" has {readers[0].events()} basic events; allowed: at most {MOST_EVENTS}"
         return f"The tree file {files[0][1]}", found, ""
@@ -253,4 +256,26 @@ class Sheet(Bytes):
         return f"expert {i}'s {what} is {value}; allowed: {allowed}"
 
 
-READERS = {"tree file": Tree, "opinion sheet": Sheet}
+class Book(Bytes):
+    # The tree's count of basic events, which no event of a window reaches.
+    events = 0
+
+    def fault(self, number, place):
+        """What this file has at the place that breaks the rule, or '' where it does not; and the part's words."""
+        size = len(self.data)
+        if number == 29 and place == size and (size > LONGEST_BOOK or size % WINDOW != 0):
+            return f"the file has {size} bytes; allowed: a multiple of {WINDOW}, and at most {LONGEST_BOOK}", "the book"
+        return self.window_fault(*divmod(place, WINDOW)) if number == 29 and place < size else ("", "")
+
+    def window_fault(self, i, within):
+        at = WINDOW * i
+        event, first, end = self.two(at), self.number(at + FIRST_HOUR, 4), self.number(at + END_HOUR, 4)
+        if within == 0 and event >= self.events:
+            return f"window {i} has the event {event}; allowed: below E = {self.events}", "the event"
+        if within == END_HOUR and end <= first:
+            return (f"window {i} has the first hour {first} and the end hour {end}; "
+                    f"allowed: an end hour after the first hour"), "the end hour"
+        return "", ""
+
+
+READERS = {"tree file": Tree, "opinion sheet": Sheet, "book": Book}

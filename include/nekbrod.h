@@ -1,10 +1,10 @@
 /*
  * Nekbrod, a proved risk monitor for fault trees: the calls for C and C++.
  *
- * The monitor holds one tree file and one opinion sheet, answers a level with an enclosure of the top probability, and
- * lists the tree's minimal cut sets. It has no memory of its own: what it holds is two lengths, which the caller keeps
- * between calls, and the bytes of both files, which lie in two stores that the caller lends at each call. Calls that
- * write to different memory may run at the same time.
+ * The monitor holds one tree file and one opinion sheet, answers a level with an enclosure of the top probability, for
+ * an hour of a book of work windows too, and lists the tree's minimal cut sets. It has no memory of its own: what it
+ * holds is two lengths, which the caller keeps between calls, and the bytes of both files, which lie in two stores that
+ * the caller lends at each call. Calls that write to different memory may run at the same time.
  *
  * Each function is proved to answer and to write what is said here for every content of the memory it is lent
  * (docs/PROMISES.md). That memory is the caller's part, and nothing checks it:
@@ -31,9 +31,14 @@ extern "C" {
 
 /* Ends are counted in units: one unit is a billionth, so this is the probability 1. */
 #define NEKBROD_ONE 1000000000u
-/* No accepted tree file and no accepted opinion sheet is longer: stores of these lengths never cause refusal 20. */
+/*
+ * No accepted tree file and no accepted opinion sheet is longer: stores of these lengths never cause refusal 20, nor a
+ * buffer of the second one refusal 30.
+ */
 #define NEKBROD_LARGEST_TREE 7175u
 #define NEKBROD_LARGEST_SHEET 17434u
+/* No book is longer: 256 work windows of 10 bytes. */
+#define NEKBROD_LARGEST_BOOK 2560u
 /* No accepted tree has more nodes: work slices of this many places never cause refusal 25. */
 #define NEKBROD_MOST_NODES 1024u
 /* Bits of a mark byte: the node's lower end is exact, its upper end is exact. */
@@ -51,7 +56,7 @@ typedef struct nekbrod_state {
 
 /*
  * The numbers of the refusals, those of documents 01 and 02, each with what it says and, after the colon, the place
- * that comes with it. An offset is in bytes from 0 in the file handed in.
+ * that comes with it. An offset is in bytes from 0 in the file handed in, or in the book.
  */
 /* Of a file handed in. */
 #define NEKBROD_TOO_SHORT 1u        /* the file is shorter than its header (tree 9, sheet 26): the file's length */
@@ -81,10 +86,15 @@ typedef struct nekbrod_state {
 /* Of cut sets; 21 and 23 are of them too. */
 #define NEKBROD_MANY_EVENTS 26u /* the held tree has more than 64 basic events: 0 */
 #define NEKBROD_SHORT_LIST 27u  /* the slice is shorter than the number of minimal cut sets: 0 */
+/* Of work windows; 13 and 21 to 25 are of them too. */
+#define NEKBROD_WRONG_BOOK 29u   /* the book's length is above 2560 or no multiple of 10: that length; a window's event
+                                    is not below the held tree's number of basic events: offset of the event; a
+                                    window's end hour is not after its first hour: offset of the end hour */
+#define NEKBROD_SHORT_BUFFER 30u /* the buffer is shorter than the held sheet: 0 */
 
 /*
  * Why a call was refused, by one of the numbers above. Number 0: it was not refused, and the place is 0. A refused call
- * changes no state, no store and no slice.
+ * changes no state, no store, no buffer and no slice.
  */
 typedef struct nekbrod_refusal {
     size_t number;
@@ -181,6 +191,28 @@ nekbrod_reply nekbrod_question(nekbrod_state state, const uint8_t *tree_store, s
                                const uint8_t *sheet_store, size_t sheet_store_len, uint32_t k, uint32_t n,
                                uint32_t *lower, size_t lower_len, uint32_t *upper, size_t upper_len, uint8_t *marks,
                                size_t marks_len);
+
+/*
+ * Questions level k of n for an hour, with the parts that are out of service then. Hours are counted from
+ * commissioning. The book is a row of work windows of 10 bytes, numbers low byte first: a 16-bit basic event at byte 0,
+ * a 32-bit first hour at 2 and a 32-bit end hour at 6. A window is open from its first hour to the hour before its end
+ * hour. An event in an open window is counted as failed with certainty, whatever the held sheet says of it; overlapping
+ * windows count once, and a book of length 0 has none.
+ * Judges and reads as nekbrod_judge does, and reads book[0 .. book_len). Refused as it is, and then by 29, 30 and 25,
+ * in that order, before anything is written; by 29 for the length first, then window by window, the event before the
+ * end hour.
+ * Answered, it writes to the front of the buffer a sheet as long as the held one, NEKBROD_LARGEST_SHEET bytes at most:
+ * the entry of each event in an open window has the four numbers NEKBROD_ONE, and all else is as held. The buffer holds
+ * that sheet afterwards, its rest stays, and the held sheet stays too. The reply and what is written to the work slices
+ * are what nekbrod_question gives for this state, tree and level with the buffer as the sheet store, so that all it
+ * says of them holds of the sheet in the buffer.
+ * Nothing is remembered between hours: each call reads the whole book, and the hour may go back.
+ */
+nekbrod_reply nekbrod_question_at_hour(nekbrod_state state, const uint8_t *tree_store, size_t tree_store_len,
+                                       const uint8_t *sheet_store, size_t sheet_store_len, const uint8_t *book,
+                                       size_t book_len, uint32_t k, uint32_t n, uint32_t hour, uint8_t *buffer,
+                                       size_t buffer_len, uint32_t *lower, size_t lower_len, uint32_t *upper,
+                                       size_t upper_len, uint8_t *marks, size_t marks_len);
 
 /*
  * Counts the minimal cut sets of the held tree, and writes nothing. A minimal cut set is a set of basic events under

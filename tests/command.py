@@ -1,5 +1,5 @@
 # The command at the root: every shipped example, levels to the byte and cut sets by brute force, its refusals in words,
-# a maker's figures, bad arguments, building, signals.
+# a maker's figures, hours of a book, bad arguments, building, signals.
 # All but the shipped examples run in a copy, where a stand-in for rt is on the path.
 import itertools
 import os
@@ -14,10 +14,14 @@ import time
 
 ROOT = os.path.dirname(os.path.dirname(os.path.realpath(__file__)))
 LEVELS = os.path.join(ROOT, "target/bin/levels")
+HOUR_LEVELS = os.path.join(ROOT, "target/bin/hour_levels")
 CUT_SETS = os.path.join(ROOT, "target/bin/cut_set_lines")
-PROGRAMS = {"levels": LEVELS, "cut_set_lines": CUT_SETS}
+PROGRAMS = {"levels": LEVELS, "hour_levels": HOUR_LEVELS, "cut_set_lines": CUT_SETS}
 ROAD = [os.path.join(ROOT, "examples/road_trip", name) for name in ("tree.ftf", "sheet.fts")]
 FUEL = [os.path.join(ROOT, "examples/fuel_supply", name) for name in ("tree.ftf", "sheet.fts")]
+PUMPS = [os.path.join(ROOT, "examples/cooling_pumps", name) for name in ("tree.ftf", "sheet.fts")]
+PLAN = os.path.join(ROOT, "examples/cooling_pumps/windows.ftw")
+LAST_HOUR = 4294967295
 NOBODY = 65534
 # A run that takes longer than this hangs.
 LONGEST = 30
@@ -141,6 +145,7 @@ CRATES = """# crates
 theory:
 levels: printer io
 printer: theory bytes
+hour_levels: printer io
 cut_set_lines: printer io
 other: theory
 """
@@ -259,6 +264,13 @@ def shipped_examples():
                 ran = run([os.path.join(ROOT, "nekbrod"), folder + "/tree.ftf", folder + "/sheet.fts", n])
                 printed(f"{name}, {n} levels", ran, read(os.path.join(folder, expected)))
                 hold(f"{name}: no errors", ran.errors == "", ran)
+            matched = re.fullmatch("levels-([0-9]+)-at-([0-9]+).txt", expected)
+            if matched:
+                n, hour = matched.groups()
+                ran = run([os.path.join(ROOT, "nekbrod"), "levels", "--windows", folder + "/windows.ftw", "--hour",
+                           hour, folder + "/tree.ftf", folder + "/sheet.fts", n])
+                printed(f"{name}, {n} levels at hour {hour}", ran, read(os.path.join(folder, expected)))
+                hold(f"{name} at hour {hour}: no errors", ran.errors == "", ran)
         if os.path.exists(folder + "/tree.ftf"):
             ran = run([os.path.join(ROOT, "nekbrod"), "cut-sets", folder + "/tree.ftf"])
             sets_printed(name, ran, read(folder + "/tree.ftf"))
@@ -290,7 +302,8 @@ def calls(work, copy):
         ran = copy.run(*words)
         hold(f"{words}: status", ran.status == 0, ran)
         for text in (b"nekbrod TREE SHEET LEVELS", b"nekbrod levels TREE SHEET LEVELS", b"nekbrod cut-sets TREE",
-                     b"--version", b"Exit status", b"128 + n"):
+                     b"nekbrod levels --windows BOOK --hour H TREE SHEET LEVELS", b"--version", b"Exit status",
+                     b"128 + n"):
             hold(f"{words}: {text}", text in ran.out, ran)
         hold(f"{words}: no errors", ran.errors == "", ran)
     ran = copy.run("--version")
@@ -307,11 +320,16 @@ def calls(work, copy):
 
 def file_names(work, copy):
     names = os.path.join(work, "names")
-    for name in ("the tree", "-n", "--help", "--version", "levels", "cut-sets", "%s\\n\\1", "$HOME *", "it's", '"',
-                 "\udcff\u00e9"):
+    for name in ("the tree", "-n", "--help", "--version", "levels", "cut-sets", "--windows", "--hour", "%s\\n\\1",
+                 "$HOME *", "it's", '"', "\udcff\u00e9"):
         write(os.path.join(names, name), read(ROAD[0]))
         write(os.path.join(names, name + ".fts"), read(ROAD[1]))
         printed(f"the file name {name!r}", copy.run(name, name + ".fts", "2", cwd=names), ROAD_LEVELS)
+        printed(f"levels and the file name {name!r}", copy.run("levels", name, name + ".fts", "2", cwd=names),
+                ROAD_LEVELS)
+        write(os.path.join(names, name + ".ftw"), b"")
+        ran = copy.run("levels", "--windows", name + ".ftw", "--hour", "2", name, name + ".fts", "2", cwd=names)
+        printed(f"a book and the file name {name!r}", ran, ROAD_LEVELS)
     ran = copy.run("\udcff.none", "x", "2", cwd=names)
     stopped("a name that is not UTF-8", ran, 2, "there is no tree file \udcff.none$")
 
@@ -551,6 +569,162 @@ def fraction_entries(work, copy):
         printed(name, copy.run(*pair, str(n)), text.encode())
 
 
+def window(event, first, end):
+    """A work window of a book."""
+    return two(event) + first.to_bytes(4, "little") + end.to_bytes(4, "little")
+
+
+# An AND of 0.5 and 0.25; the first is out of service from hour 10 to 20 and, once more, from 12 to 14, the second from
+# 15 to 25 and up to the last end hour that there is.
+BOTH_FAIL = tree([EVENT, (0, 1, 0), (1, 0, 2)], [0, 1])
+HALF_AND_QUARTER = sheet([four(*[500000000] * 4), four(*[250000000] * 4)])
+BOOK = window(0, 10, 20) + window(1, 15, 25) + window(0, 12, 14) + window(1, LAST_HOUR - 1, LAST_HOUR)
+AT_HOURS = [
+    (125000000, (0, 9, 25, LAST_HOUR - 2, LAST_HOUR)),
+    (250000000, (10, 11, 12, 13, 14)),
+    (500000000, (20, 24, LAST_HOUR - 1)),
+    (1000000000, (15, 19)),
+]
+
+# Name, book, the printer's line, which row of 29 in the page's table, what is said.
+WRONG_BOOKS = [
+    *((f"a book of {length} bytes", bytes(length), f"refused 29 at {length}", 0,
+       f"the file has {length} bytes; allowed: a multiple of 10, and at most 2560")
+      for length in (1, 9, 11, 2559, 2561, 2570, 65535)),
+    ("a book with a byte more", BOOK + b"\0", "refused 29 at 41", 0,
+     "the file has 41 bytes; allowed: a multiple of 10, and at most 2560"),
+    ("257 windows", window(0, 1, 2) * 257, "refused 29 at 2570", 0,
+     "the file has 2570 bytes; allowed: a multiple of 10, and at most 2560"),
+    ("an event equal to E", window(2, 1, 2), "refused 29 at 0", 1, "window 0 has the event 2; allowed: below E = 2"),
+    ("the largest event in the last of 256 windows", window(1, 1, 2) * 255 + window(65535, 1, 2), "refused 29 at 2550",
+     1, "window 255 has the event 65535; allowed: below E = 2"),
+    ("a window of no hour", window(0, 0, 0), "refused 29 at 6", 2,
+     "window 0 has the first hour 0 and the end hour 0; allowed: an end hour after the first hour"),
+    ("an end hour before its first hour", BOOK + window(1, LAST_HOUR, LAST_HOUR - 1), "refused 29 at 46", 2,
+     f"window 4 has the first hour {LAST_HOUR} and the end hour {LAST_HOUR - 1}; "
+     "allowed: an end hour after the first hour"),
+    ("a wrong end hour, and a wrong event after it", window(0, 7, 7) + window(2, 1, 2), "refused 29 at 6", 2,
+     "window 0 has the first hour 7 and the end hour 7; allowed: an end hour after the first hour"),
+    ("a wrong event and a wrong end hour in one window", window(1, 7, 8) + window(2, 8, 8), "refused 29 at 10", 1,
+     "window 1 has the event 2; allowed: below E = 2"),
+]
+
+
+def hours(work, copy):
+    names = [os.path.join(work, "hours", name) for name in ("a tree", "a sheet", "a book")]
+    rows = table_rows()
+
+    def ask(book=BOOK, hour=0, tree_bytes=BOTH_FAIL, sheet_bytes=HALF_AND_QUARTER, levels=1):
+        for name, data in zip(names, (tree_bytes, sheet_bytes, book)):
+            write(name, data)
+        return copy.run("levels", "--windows", names[2], "--hour", str(hour), *names[:2], str(levels))
+
+    for end, open_hours in AT_HOURS:
+        for hour in open_hours:
+            text = f"tree 7 events 2 levels 1\n1 {end} = {end} =\n0 {end} = {end} =\n"
+            printed(f"hour {hour}", ask(hour=hour), text.encode())
+    hold("hours: rt is asked", copy.calls()[-1:] == ["check hour_levels"])
+    plain = copy.run(*names[:2], "1").out
+    printed("the largest book, none of it open", ask(window(1, 5, 6) * 256, hour=6), plain)
+    for name, words in (("--hour first", ["--hour", "15", "--windows", PLAN]),
+                        ("zeros before the hour", ["--windows", PLAN, "--hour", "0" * 5000 + "15"])):
+        printed(name, copy.run("levels", *words, *PUMPS, "10"),
+                copy.run("levels", "--windows", PLAN, "--hour", "15", *PUMPS, "10").out)
+    empty = write(os.path.join(work, "hours/empty"), b"")
+    for book, hour in (empty, "0"), (empty, "77"), (PLAN, str(LAST_HOUR)):
+        printed(f"as without a book, hour {hour}", copy.run("levels", "--windows", book, "--hour", hour, *PUMPS, "10"),
+                copy.run(*PUMPS, "10").out)
+    for name, book, line, which, found in WRONG_BOOKS:
+        cells, place = rows[29][which], line.split()[3]
+        refused(name, ask(book), line, f"refusal 29: {cells[0]}. The book {names[2]}, byte {place}: {found}",
+                f"aboard: {cells[3]}")
+    for name, given, line, found in (
+            ("an hour, tree refused", {"tree_bytes": b""}, "refused 1 at 0",
+             f"The tree file {names[0]}, byte 0: the file has 0 bytes; allowed: at least 9"),
+            ("an hour, sheet refused", {"sheet_bytes": sheet([terms()] * 2, scores=[1])}, "refused 12 at 26",
+             f"The opinion sheet {names[1]}, byte 26: the entry of event 0 has no term but 0 (experts: 1); "
+             "allowed: a term from 1 to 7 by one expert at the least"),
+            ("an hour, 0 levels", {"levels": 0}, "refused 13 at 0", "The number of levels is 0; allowed: 1 to 1000"),
+            ("an hour, another tree's sheet", {"sheet_bytes": GOOD}, "refused 24 at 0",
+             "The two files do not belong together: the tree file has the tree number 7 and E = 2, "
+             "the opinion sheet 7 and E = 1; allowed: the same in both")):
+        cells = rows[int(line.split()[1])][0]
+        refused(f"{name}, before its book", ask(b"\0", **given), line,
+                f"refusal {line.split()[1]}: {cells[0]}. {found}", f"aboard: {cells[3]}")
+    refused("an hour, a tree of 7,176 bytes", ask(tree_bytes=bytes(7176)), "input",
+            f"the tree file {names[0]} has 7176 bytes; allowed: at most 7175", "see that each file is the right one")
+    refused("an hour, a sheet of 17,435 bytes", ask(sheet_bytes=bytes(17435)), "input",
+            f"the opinion sheet {names[1]} has 17435 bytes; allowed: at most 17434",
+            "see that each file is the right one")
+    other_hour_printers(copy, names, ask)
+
+
+def other_hour_printers(copy, names, ask):
+    for name, commands, words in (("prints nothing", ":", "the hour printer gave neither levels nor a refusal"),
+                                  ("fails", "exit 7", "the hour printer ended with status 7")):
+        copy.change(f"#!/bin/sh\n{commands}\n", "hour_levels")
+        stopped(f"an hour printer that {name}", last_of(ask()), 3, words)
+    for line in ("refused 29 at 0", "refused 29 at 3", "refused 29 at 40", "refused 29 at 99999", "refused 30 at 0"):
+        copy.change(f"#!/bin/sh\necho {line}\n", "hour_levels")
+        ran = ask()
+        hold(f"an hour printer that says '{line}'", ran.status == 1 and ran.out == line.encode() + b"\n"
+             and f"Its place is {line.split()[3]}." in ran.errors and "Traceback" not in ran.errors, ran)
+    hold("refusal 30 in the page's words", f"refusal 30: {table_rows()[30][0][0]}. Its place is 0." in ran.errors, ran)
+    copy.change("#!/bin/sh\ncat >'" + copy.notes + "/input'; echo tree of no consequence\n", "hour_levels")
+    ran = ask(hour=LAST_HOUR - 255)
+    files = [read(name) for name in names]
+    expected = two(1) + b"".join(two(len(file)) for file in files) + b"\0\xff\xff\xff" + b"".join(files)
+    hold("the hour printer's input", read(copy.notes + "/input") == expected, ran)
+    copy.change(read(HOUR_LEVELS), "hour_levels")
+    ask()
+    if os.path.exists("/dev/full"):
+        with open("/dev/full", "wb") as full:
+            ran = copy.run("levels", "--windows", names[2], "--hour", "0", *names[:2], "1", stdout=full)
+        hold("an hour, a full disk", ran.status == 3 and len(ran.lines) == 1
+             and "could not be written: No space left" in ran.errors, ran)
+
+
+def bad_hours(work, copy, none, long):
+    """Words of an hour that are not taken."""
+    after = "stand right after the word levels; see nekbrod --help$"
+    missing = "--windows BOOK and --hour H go together, and {} is missing; see nekbrod --help$"
+    both = ["--windows", PLAN, "--hour", "5"]
+    for name, words, said in (
+            ("--windows alone", ["levels", "--windows"], "--windows takes a word, BOOK, and there is none"),
+            ("--hour alone", ["levels", "--hour"], "--hour takes a word, H, and there is none"),
+            ("a book and --hour alone", ["levels", "--windows", PLAN, "--hour"], "--hour takes a word, H, and there"),
+            ("no hour", ["levels", "--windows", PLAN, *PUMPS, "2"], missing.format("--hour")),
+            ("no book", ["levels", "--hour", "5", *PUMPS, "2"], missing.format("--windows")),
+            ("a book and two words", ["levels", "--windows", PLAN, "2"], missing.format("--hour")),
+            ("an hour and two words", ["levels", "--hour", "5", "2"], missing.format("--windows")),
+            ("two books", ["levels", "--windows", PLAN, "--windows", PLAN, *PUMPS, "2"], "--windows is given twice"),
+            ("two hours", ["levels", *both, "--hour", "6", *PUMPS, "2"], "--hour is given twice"),
+            ("an hour and no file", ["levels", *both], "after --windows BOOK and --hour H come a tree file, an op"),
+            ("an hour and two files", ["levels", *both, *PUMPS], "and a number of levels; see nekbrod --help$"),
+            ("an hour and four words", ["levels", *both, *PUMPS, "2", "2"], "and a number of levels; see nekbrod --h"),
+            ("an unknown option", ["levels", "--wat", PLAN, *both, *PUMPS, "2"], after),
+            ("options without levels", [*both, *PUMPS, "2"], after),
+            ("an option and two words", ["--hour", "5", "2"], after),
+            ("options after the files", ["levels", *PUMPS, "2", *both], after),
+            ("options among the files", ["levels", PUMPS[0], *both, PUMPS[1], "2"], after),
+            ("options of cut-sets", ["cut-sets", *both, PUMPS[0]], "nekbrod cut-sets takes a tree file alone")):
+        stopped(name, copy.run(*words), 2, said)
+    for hour in ("", "noon", "-1", "+1", "1.5", "0x10", " 5", "5\n", "٣", "1_0"):
+        ran = copy.run("levels", "--windows", PLAN, "--hour", hour, *PUMPS, "2")
+        hold(f"hour {hour!r}: status", ran.status == 2 and ran.out == b"", ran)
+        hold(f"hour {hour!r}: said", ran.errors == f"nekbrod: the hour is a number, not '{hour}'\n", ran)
+    for hour in ("4294967296", "99999999999999999999", "9" * 5000):
+        stopped(f"hour {hour[:20]}", copy.run("levels", "--windows", PLAN, "--hour", hour, *PUMPS, "2"), 2,
+                f"the hour is at most 4294967295, not {hour}$")
+    stopped("an hour, 65,536 levels", copy.run("levels", *both, *PUMPS, "65536"), 2, "the number of levels is at most")
+    for name, book, words in (("no such book", none, "there is no book .*none$"),
+                              ("an empty name of a book", "", "there is no book"),
+                              ("a folder as a book", work, "the book .* is not a file"),
+                              ("a book of 65,536 bytes", long, "the book .* is longer than 65535 bytes")):
+        stopped(name, copy.run("levels", "--windows", book, "--hour", "5", *PUMPS, "2"), 2, words)
+    stopped("a book, no such tree", copy.run("levels", *both, none, PUMPS[1], "2"), 2, "there is no tree file .*none$")
+
+
 def bad_arguments(work, copy):
     for name, words in (("one argument", [ROAD[0]]), ("two arguments", ROAD), ("four arguments", [*ROAD, "2", "2"]),
                         ("an empty argument", [""]), ("levels alone", ["levels"]),
@@ -581,6 +755,7 @@ def bad_arguments(work, copy):
                               ("an empty name", "", "there is no tree file"), ("a folder", work, "is not a file"),
                               ("65,536 bytes", long, "the tree file .* is longer than 65535 bytes")):
         stopped(f"cut-sets, {name}", copy.run("cut-sets", file), 2, words)
+    bad_hours(work, copy, none, long)
     hold("bad arguments: rt is not asked", copy.calls() == [])
     shut = write(os.path.join(work, "shut"), read(ROAD[0]))
     os.chmod(shut, 0)
@@ -589,6 +764,10 @@ def bad_arguments(work, copy):
         return
     stopped("a file that can't be read", copy.run(shut, shut, "2", cwd="/", **SHUT_OUT), 2,
             "the tree file .*shut cannot be read: Permission denied")
+    pair = [write(os.path.join(work, "open", os.path.basename(name)), read(name)) for name in ROAD]
+    stopped("a book that can't be read",
+            copy.run("levels", "--windows", shut, "--hour", "5", *pair, "2", cwd="/", **SHUT_OUT), 2,
+            "the book .*shut cannot be read: Permission denied")
 
 
 def kinds_and_links(file):
@@ -763,6 +942,8 @@ def building(copy):
     stopped("nothing built and no rt", copy.run(*ROAD, "2"), 3, "the level printer is not built.*rt is not on the path")
     stopped("cut-sets, nothing built and no rt", copy.run("cut-sets", ROAD[0]), 3,
             "the cut set printer is not built.*rt is not on the path")
+    stopped("an hour, nothing built and no rt", copy.run("levels", "--windows", PLAN, "--hour", "5", *PUMPS, "2"), 3,
+            "the hour printer is not built.*rt is not on the path")
     copy.stand_in()
     ran = copy.run()
     printed("a first run", ran, FUEL_LEVELS)
@@ -793,6 +974,7 @@ def building(copy):
     ran = copy.run(*ROAD, "2")
     hold("a slow rt where nothing changed: nothing said", ran.errors == "" and ran.status == 0, ran)
     building_sets(copy)
+    building_hours(copy)
     without_rt(copy)
 
 
@@ -812,6 +994,25 @@ def building_sets(copy):
          and "no cut set is printed; " in ran.lines[-1], ran)
     copy.stand_in()
     printed("the levels after it", copy.run(*ROAD, "2"), b"tree of another source\n")
+
+
+def building_hours(copy):
+    copy.stand_in()
+    words = ["levels", "--windows", PLAN, "--hour", str(LAST_HOUR), *PUMPS, "10"]
+    text = read(os.path.join(ROOT, "examples/cooling_pumps/levels-10.txt"))
+    ran = copy.run(*words)
+    printed("a first run for an hour", ran, text)
+    hold("a first run for an hour: what it does", "proving and building the hour printer" in ran.errors, ran)
+    hold("a first run for an hour: the call", copy.calls() == ["check hour_levels"], ran)
+    ran = copy.run(*words)
+    printed("a second run for an hour", ran, text)
+    hold("a second run for an hour: no errors", ran.errors == "", ran)
+    os.remove(os.path.join(copy.target, "stamp/hour_levels"))
+    copy.stand_in(status=1)
+    ran = copy.run(*words)
+    hold("an hour, a build that fails: status", ran.status == 3 and ran.out == b"", ran)
+    hold("an hour, a build that fails: said", "'rt check hour_levels' failed: it ended with status 1" in ran.errors
+         and "no level is printed; " in ran.lines[-1], ran)
 
 
 def without_rt(copy):
@@ -1140,6 +1341,7 @@ def main():
         file_names(work, copy)
         refusals(work, copy)
         fraction_entries(work, copy)
+        hours(work, copy)
         calls(work, copy)
         cut_sets(work, copy)
         outputs(copy)

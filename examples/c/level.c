@@ -9,6 +9,7 @@
  *     cc -Iinclude examples/c/level.c target/staticlib/libcapi.a -o level
  */
 #include "read_file.h"
+#include "read_number.h"
 #include <nekbrod.h>
 #include <stdio.h>
 #include <stdlib.h>
@@ -21,26 +22,6 @@ static uint8_t sheet_store[NEKBROD_LARGEST_SHEET];
 static uint32_t lower[NEKBROD_MOST_NODES];
 static uint32_t upper[NEKBROD_MOST_NODES];
 static uint8_t marks[NEKBROD_MOST_NODES];
-
-/* Decimal digits alone, for a number of 32 bits. */
-static bool read_number(const char *word, uint32_t *number)
-{
-    uint64_t value = 0;
-    if (*word == '\0') {
-        return false;
-    }
-    for (; *word != '\0'; word++) {
-        if (*word < '0' || '9' < *word) {
-            return false;
-        }
-        value = 10 * value + (uint64_t)(*word - '0');
-        if (UINT32_MAX < value) {
-            return false;
-        }
-    }
-    *number = (uint32_t)value;
-    return true;
-}
 
 static int print_refusal(const char *what, nekbrod_refusal refusal)
 {

@@ -19,6 +19,12 @@
 static const uint8_t TREE[14] = {'F', 'T', 'F', 1, 0, 7, 0, 1, 0};
 static const uint8_t SHEET[43] = {'F', 'T', 'S', 1, 0, 7, 0, 1, [31] = 1, [35] = 1, [39] = 2};
 
+/* Work windows of its event: from hour 5 to hour 7, and from hour 6 to the last end hour there is. */
+static const uint8_t BOOK[20] = {[2] = 5, [6] = 7, [12] = 6, [16] = 255, 255, 255, 255};
+
+/* The entry of an event in an open window. */
+static const uint8_t CERTAIN[17] = {0, 0, 202, 154, 59, 0, 202, 154, 59, 0, 202, 154, 59, 0, 202, 154, 59};
+
 /* An OR of two basic events, whose minimal cut sets are the two alone. */
 static const uint8_t TWO[28] = {'F', 'T', 'F', 1, 0, 7, 0, 3, [15] = 1, [19] = 2, [22] = 2, [26] = 1};
 
@@ -46,7 +52,7 @@ struct slice {
     size_t len;
 };
 
-static struct slice slices[256];
+static struct slice slices[1024];
 static size_t slice_count = 0;
 
 static size_t page_size(void)
@@ -167,6 +173,107 @@ static void question_short(void)
     EXPECT(*lower == 0 && *upper == 2 && *marks == 0);
 }
 
+/* What an hour's question is lent beside the held pair: a book, a buffer and the work slices of one node. */
+struct lent {
+    const uint8_t *book;
+    size_t book_len;
+    uint8_t *buffer;
+    size_t buffer_len;
+    uint32_t *lower;
+    uint32_t *upper;
+    uint8_t *marks;
+};
+
+/* All of it at the edge; a book or a buffer of no bytes is null. */
+static struct lent lend(const uint8_t *book, size_t book_len, size_t buffer_len)
+{
+    struct lent lent = {book_len == 0 ? NULL : copy_at_the_edge(book, book_len),
+                        book_len,
+                        buffer_len == 0 ? NULL : at_the_edge(buffer_len),
+                        buffer_len,
+                        (uint32_t *)(void *)at_the_edge(4),
+                        (uint32_t *)(void *)at_the_edge(4),
+                        at_the_edge(1)};
+    return lent;
+}
+
+static bool untouched(struct lent lent)
+{
+    return filled(lent.buffer, lent.buffer_len) && filled(lent.lower, 4) && filled(lent.upper, 4) &&
+           filled(lent.marks, 1);
+}
+
+/* Level 1 of 2 of the held pair at an hour; of the work slices those are lent whose bit is set, the others are null. */
+static nekbrod_reply question_at(struct lent lent, uint32_t hour, int kept)
+{
+    uint8_t *tree = copy_at_the_edge(TREE, sizeof TREE), *sheet = copy_at_the_edge(SHEET, sizeof SHEET);
+    return nekbrod_question_at_hour(BOTH, tree, sizeof TREE, sheet, sizeof SHEET, lent.book, lent.book_len, 1, 2, hour,
+                                    lent.buffer, lent.buffer_len, kept & 1 ? lent.lower : NULL, kept & 1,
+                                    kept & 2 ? lent.upper : NULL, kept >> 1 & 1, kept & 4 ? lent.marks : NULL,
+                                    kept >> 2 & 1);
+}
+
+static void hours_refused(void)
+{
+    struct lent lent = lend(BOOK, sizeof BOOK, sizeof SHEET);
+    nekbrod_reply reply =
+        nekbrod_question_at_hour(NOTHING, NULL, 0, NULL, 0, NULL, 0, 1, 2, 0, NULL, 0, NULL, 0, NULL, 0, NULL, 0);
+    EXPECT(refused(reply.refusal, NEKBROD_NO_TREE, 0) && same(reply.state, NOTHING));
+    reply = nekbrod_question_at_hour(BOTH, NULL, 0, NULL, 0, lent.book, lent.book_len, 1, 2, 5, lent.buffer,
+                                     lent.buffer_len, lent.lower, 1, lent.upper, 1, lent.marks, 1);
+    EXPECT(refused(reply.refusal, NEKBROD_CHANGED, 0) && same(reply.state, BOTH) && untouched(lent));
+    for (int kept = 0; kept < 7; kept++) {
+        reply = question_at(lent, 5, kept);
+        EXPECT(refused(reply.refusal, NEKBROD_SHORT_SLICE, 0) && same(reply.state, BOTH) && untouched(lent));
+        EXPECT(reply.lower == 0 && reply.upper == NEKBROD_ONE && !reply.lower_exact && !reply.upper_exact);
+        EXPECT(reply.events == 0);
+    }
+    /* A book that ends inside a window, or has a window too many; slices and buffers do not matter then. */
+    static const uint8_t LONG[NEKBROD_LARGEST_BOOK + 10];
+    const size_t lengths[] = {1, 9, 11, 19, NEKBROD_LARGEST_BOOK - 1, NEKBROD_LARGEST_BOOK + 10};
+    for (size_t i = 0; i < sizeof lengths / sizeof lengths[0]; i++) {
+        struct lent wrong = lend(lengths[i] < sizeof BOOK ? BOOK : LONG, lengths[i], i % 2 == 0 ? sizeof SHEET : 0);
+        EXPECT(refused(question_at(wrong, 5, 7 * (i % 3 == 0)).refusal, NEKBROD_WRONG_BOOK, lengths[i]));
+        EXPECT(untouched(wrong));
+    }
+    /* An event that is not below 1, and an end hour that is its first hour, in the second window. */
+    for (int i = 0; i < 2; i++) {
+        uint8_t book[sizeof BOOK];
+        memcpy(book, BOOK, sizeof BOOK);
+        book[10] = i == 0;
+        memcpy(book + 16, book + 12, 4);
+        struct lent wrong = lend(book, sizeof book, i == 0 ? 0 : sizeof SHEET);
+        EXPECT(refused(question_at(wrong, 5, 0).refusal, NEKBROD_WRONG_BOOK, i == 0 ? 10 : 16) && untouched(wrong));
+    }
+    /* Buffers of no byte and of one byte too few, before 25. */
+    for (int kept = 0; kept < 8; kept += 7) {
+        struct lent none = lend(BOOK, sizeof BOOK, 0), one_less = lend(BOOK, sizeof BOOK, sizeof SHEET - 1);
+        EXPECT(refused(question_at(none, 5, kept).refusal, NEKBROD_SHORT_BUFFER, 0) && untouched(none));
+        EXPECT(refused(question_at(one_less, 5, kept).refusal, NEKBROD_SHORT_BUFFER, 0) && untouched(one_less));
+    }
+}
+
+/* Each edge of the windows, with books of no, one and two windows and buffers of up to two bytes more than a sheet. */
+static void hours_answered(void)
+{
+    const uint32_t hours[] = {0, 4, 5, 6, 7, 8, UINT32_MAX - 1, UINT32_MAX, 4};
+    for (size_t windows = 0; windows < 3; windows++) {
+        for (size_t i = 0; i < sizeof hours / sizeof hours[0]; i++) {
+            uint32_t hour = hours[i];
+            bool open = (windows > 0 && 5 <= hour && hour < 7) || (windows > 1 && 6 <= hour && hour < UINT32_MAX);
+            struct lent lent = lend(BOOK, 10 * windows, sizeof SHEET + i % 3);
+            nekbrod_reply reply = question_at(lent, hour, 7);
+            uint32_t lower = open ? NEKBROD_ONE : 0, upper = open ? NEKBROD_ONE : 2;
+            EXPECT(refused(reply.refusal, 0, 0) && same(reply.state, BOTH) && reply.events == 1);
+            EXPECT(reply.lower == lower && reply.upper == upper);
+            EXPECT(reply.lower_exact == open && reply.upper_exact == open);
+            EXPECT(*lent.lower == lower && *lent.upper == upper && *lent.marks == (open ? 3 : 0));
+            EXPECT(memcmp(lent.buffer, SHEET, 26) == 0 && filled(lent.buffer + sizeof SHEET, i % 3));
+            EXPECT(memcmp(lent.buffer + 26, open ? CERTAIN : SHEET + 26, 17) == 0);
+        }
+    }
+}
+
 /* An OR of as many basic events, up to 65 of them, sixteen to a gate, in a file of its own. */
 static uint8_t *events_at_the_edge(size_t events, size_t *len)
 {
@@ -274,6 +381,8 @@ int main(void)
         hand_in_short();
         judge_short();
         question_short();
+        hours_refused();
+        hours_answered();
         cut_sets_refused();
         cut_sets_short();
         cut_sets_of_64();

@@ -7,26 +7,17 @@
 //! Run at the repository's root, after `rt staticlib capi`:
 //!     cargo run --release --offline --manifest-path examples/rust/Cargo.toml -- TREE SHEET K N
 
-use nekbrod::{End, Level, Monitor, Refusal};
+mod words;
+
+use nekbrod::{Level, Monitor};
 use std::ffi::OsString;
-use std::io::{self, Write};
 use std::process::ExitCode;
+use words::{end_text, print_text, read_file, read_number, report, Failure};
 
-const USAGE: &str = "usage: level TREE SHEET K N, where TREE and SHEET are files and level K of N is asked";
-
-/// What kept the level from being printed; a refusal is of the tree, the sheet or the level.
-enum Failure {
-    Refused(&'static str, Refusal),
-    Usage,
-    Unreadable(OsString),
-    Unwritten(io::Error),
-}
+const USAGE: &str = "level TREE SHEET K N, where TREE and SHEET are files and level K of N is asked";
 
 fn main() -> ExitCode {
-    match print_level(std::env::args_os().skip(1).collect()) {
-        Ok(()) => ExitCode::SUCCESS,
-        Err(failure) => report(failure),
-    }
+    report("level", USAGE, print_level(std::env::args_os().skip(1).collect()))
 }
 
 /// Holds both files and questions one level.
@@ -39,32 +30,5 @@ fn print_level(words: Vec<OsString>) -> Result<(), Failure> {
     monitor.hand_in_sheet(&sheet).map_err(|refusal| Failure::Refused("sheet", refusal))?;
     let level = monitor.question(k, n).map_err(|refusal| Failure::Refused("level", refusal))?;
     let Level { lower, upper, .. } = level;
-    let line = format!("{k} {} {}\n", end_text(lower), end_text(upper));
-    let mut out = io::stdout().lock();
-    out.write_all(line.as_bytes()).and_then(|()| out.flush()).map_err(Failure::Unwritten)
-}
-
-fn end_text(end: End) -> String {
-    format!("{} {}", end.billionths, if end.exact { '=' } else { '~' })
-}
-
-/// Decimal digits alone, for a number of 32 bits.
-fn read_number(word: &OsString) -> Result<u32, Failure> {
-    let digits = word.to_str().filter(|word| word.bytes().all(|byte| byte.is_ascii_digit()));
-    digits.and_then(|digits| digits.parse().ok()).ok_or(Failure::Usage)
-}
-
-fn read_file(name: OsString) -> Result<Vec<u8>, Failure> {
-    std::fs::read(&name).map_err(|_| Failure::Unreadable(name))
-}
-
-fn report(failure: Failure) -> ExitCode {
-    let (status, text) = match failure {
-        Failure::Refused(what, refusal) => (1, format!("{what}: refused {} at {}", refusal.number, refusal.place)),
-        Failure::Usage => (2, USAGE.to_string()),
-        Failure::Unreadable(name) => (2, format!("level: can't read {}", name.display())),
-        Failure::Unwritten(error) => (3, format!("level: can't write: {error}")),
-    };
-    let _ = writeln!(io::stderr(), "{text}");
-    ExitCode::from(status)
+    print_text(&format!("{k} {} {}\n", end_text(lower), end_text(upper)))
 }

@@ -1,5 +1,6 @@
-//! The calls of include/nekbrod.h as a monitor that owns what the library is lent: two stores, three work slices, and
-//! the state between calls. So a safe program cannot pass it a wrong pointer, a wrong length or another state.
+//! The calls of include/nekbrod.h as a monitor that owns what the library is lent: two stores, a buffer for an hour's
+//! sheet, three work slices, and the state between calls. So a safe program cannot pass it a wrong pointer, a wrong
+//! length or another state.
 
 /// No accepted tree file and no accepted opinion sheet is longer, and no accepted tree has more nodes.
 const LARGEST_TREE: usize = 7_175;
@@ -33,6 +34,7 @@ pub struct Monitor {
     state: State,
     tree_store: Vec<u8>,
     sheet_store: Vec<u8>,
+    buffer: Vec<u8>,
     lower: Vec<u32>,
     upper: Vec<u32>,
     marks: Vec<u8>,
@@ -45,6 +47,7 @@ impl Monitor {
             state: State { tree_len: 0, sheet_len: 0 },
             tree_store: vec![0; LARGEST_TREE],
             sheet_store: vec![0; LARGEST_SHEET],
+            buffer: vec![0; LARGEST_SHEET],
             lower: vec![0; MOST_NODES],
             upper: vec![0; MOST_NODES],
             marks: vec![0; MOST_NODES],
@@ -119,6 +122,40 @@ impl Monitor {
                 self.marks.len(),
             )
         };
+        self.level_of(reply)
+    }
+
+    /// Level k of n of the held pair at an hour since commissioning: each basic event in a work window of the book that
+    /// is open then is counted as failed with certainty. The held sheet stays, and nothing is kept for the next hour.
+    pub fn question_at_hour(&mut self, book: &[u8], k: u32, n: u32, hour: u32) -> Result<Level, Refusal> {
+        // SAFETY: all six are vectors of their own, lent with their lengths, and Rust keeps them apart from the book.
+        let reply = unsafe {
+            nekbrod_question_at_hour(
+                self.state,
+                self.tree_store.as_ptr(),
+                self.tree_store.len(),
+                self.sheet_store.as_ptr(),
+                self.sheet_store.len(),
+                book.as_ptr(),
+                book.len(),
+                k,
+                n,
+                hour,
+                self.buffer.as_mut_ptr(),
+                self.buffer.len(),
+                self.lower.as_mut_ptr(),
+                self.lower.len(),
+                self.upper.as_mut_ptr(),
+                self.upper.len(),
+                self.marks.as_mut_ptr(),
+                self.marks.len(),
+            )
+        };
+        self.level_of(reply)
+    }
+
+    /// What a question answered, and the state that came with it.
+    fn level_of(&mut self, reply: Reply) -> Result<Level, Refusal> {
         self.state = reply.state;
         reply.refusal.unless_none()?;
         Ok(Level {
@@ -200,6 +237,26 @@ extern "C" {
         sheet_store_len: usize,
         k: u32,
         n: u32,
+        lower: *mut u32,
+        lower_len: usize,
+        upper: *mut u32,
+        upper_len: usize,
+        marks: *mut u8,
+        marks_len: usize,
+    ) -> Reply;
+    fn nekbrod_question_at_hour(
+        state: State,
+        tree_store: *const u8,
+        tree_store_len: usize,
+        sheet_store: *const u8,
+        sheet_store_len: usize,
+        book: *const u8,
+        book_len: usize,
+        k: u32,
+        n: u32,
+        hour: u32,
+        buffer: *mut u8,
+        buffer_len: usize,
         lower: *mut u32,
         lower_len: usize,
         upper: *mut u32,
