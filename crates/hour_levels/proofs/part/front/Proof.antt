@@ -1,0 +1,14 @@
+-- `hour_levels::part::front` is safe and ends, and answers a length that fits.
+use borrow.Author.Needs.{needs}
+use Rattle.io.proofs.Counting.{counts}
+use Rattle.hour_levels.proofs.part.front.Statement.{statement}
+use Rattle.hour_levels.proofs.part.front.Tie as tie
+
+returns : tie.Need-returns
+returns c = search (needs, counts)
+
+returns-2 : tie.Need-returns-2
+returns-2 c = search (needs, counts)
+
+pub front-spec : {M : Type 1} → statement M
+front-spec = tie.close (tie.spec returns returns-2)
