@@ -12,6 +12,7 @@ pub mod sheet_judge;
 pub mod cut;
 pub mod evaluation;
 pub mod monitor;
+pub mod work_windows;
 pub mod cut_sets;
 pub mod levels;
 pub mod set_lines;

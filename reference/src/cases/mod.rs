@@ -17,6 +17,7 @@ pub mod fraction_entries;
 pub mod fraction_damage;
 pub mod fraction_limits;
 pub mod fractions;
+pub mod books;
 pub mod call_lists;
 pub mod vector_list;
 pub mod fraction_vectors;

@@ -14,6 +14,8 @@ mod fractions;
 mod call_refusals;
 mod calls_answered;
 mod limits;
+mod work_windows;
+mod window_refusals;
 mod cut_sets;
 mod minimal_cut_sets;
 mod enclosure;
