@@ -15,6 +15,7 @@ pub mod monitor;
 pub mod work_windows;
 pub mod cut_sets;
 pub mod levels;
+pub mod hours;
 pub mod set_lines;
 pub mod hex;
 pub mod calls;
