@@ -10,10 +10,11 @@ use reference::cases::{file_name, parse_kind, write_case, Kind};
 use reference::compare::{compare, printer_of, report, Cases};
 use reference::examples::example;
 use reference::framing::{frame, split_frames};
-use reference::hours::print_hours;
+use reference::hours::{hour_input, print_hours};
 use reference::levels::{print_levels, printer_input};
 use reference::set_lines::print_sets;
 use reference::vectors::{stream_text, write_stream};
+use reference::work_windows::Plan;
 use std::io::{self, Read, Write};
 use std::path::Path;
 use std::process::ExitCode;
@@ -37,8 +38,8 @@ reference windows                              the same of the limits and faults
 reference compare SEED COUNT KIND PROGRAM [WORD...]
     such cases given to a level printer, one run each; status 1 where it prints anything else than `levels` here, or,
     of windows, than `hours`
-reference example NAME tree|sheet              a file of an example
-reference example NAME input N                 the printer's input for an example with N levels
+reference example NAME tree|sheet|book         a file of an example
+reference example NAME input N [HOUR]          the printer's input for an example with N levels, alone or at an hour
     NAME: road_trip container_seal fuel_supply cooling_pumps
 ";
 
@@ -110,10 +111,18 @@ fn run(words: &[&str]) -> Result<(), Failure> {
         }
         ["example", name, "tree"] => Ok(write_out(&example(name).ok_or(Failure::Usage)?.tree())?),
         ["example", name, "sheet"] => Ok(write_out(&example(name).ok_or(Failure::Usage)?.sheet())?),
+        ["example", name, "book"] => Ok(write_out(&example(name).ok_or(Failure::Usage)?.book())?),
         ["example", name, "input", n] => {
             let example = example(name).ok_or(Failure::Usage)?;
             let n = n.parse().map_err(|_| Failure::Usage)?;
             Ok(write_out(&printer_input(n, &example.tree(), &example.sheet()))?)
+        }
+        ["example", name, "input", n, hour] => {
+            let example = example(name).ok_or(Failure::Usage)?;
+            let [n, hour] = [number(n)?, number(hour)?];
+            let n = n.try_into().map_err(|_| Failure::Usage)?;
+            let plan = Plan { book: &example.book(), hour: hour.try_into().map_err(|_| Failure::Usage)? };
+            Ok(write_out(&hour_input(n, &example.tree(), &example.sheet(), plan))?)
         }
         _ => Err(Failure::Usage),
     }
