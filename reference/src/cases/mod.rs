@@ -23,6 +23,7 @@ pub mod call_lists;
 pub mod vector_list;
 pub mod fraction_vectors;
 pub mod step_vectors;
+pub mod window_vectors;
 
 use crate::random::Random;
 
