@@ -95,11 +95,14 @@ fn any_seed() -> u64 {
 }
 
 fn counts(tally: Tally) -> String {
-    let Tally { calls, questions, answered, fractions, unheld, hand_ins, accepted, lists, listed, sets } = tally;
+    let Tally { calls, questions, answered, fractions, unheld, hand_ins, accepted, lists, listed, sets, .. } = tally;
+    let Tally { hour_questions, hours_answered, open, .. } = tally;
     let answered = format!("{answered} answered, {fractions} of these with fraction entries");
     let questions = format!("{questions} questions, {answered}, {unheld} with nothing to answer from");
     let lists = format!("{lists} lists of cut sets, {listed} answered with {sets} sets");
-    format!("{calls} calls: {questions}; {hand_ins} hand-ins, {accepted} accepted; {lists}")
+    let hours =
+        format!("{hour_questions} questions at an hour, {hours_answered} answered, {open} of these with a window open");
+    format!("{calls} calls: {questions}; {hand_ins} hand-ins, {accepted} accepted; {lists}; {hours}")
 }
 
 fn run_compare(cases: Cases) -> bool {

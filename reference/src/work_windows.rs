@@ -39,6 +39,11 @@ pub struct Plan<'a> {
 }
 
 impl Plan<'_> {
+    /// Whether a window is open. The length of the book was judged.
+    pub fn has_open(&self) -> bool {
+        self.windows().any(|(_, window)| window.is_open(self.hour))
+    }
+
     /// The windows of the book with the place of each, in order.
     fn windows(&self) -> impl Iterator<Item = (usize, Window)> + '_ {
         (0..self.book.len()).step_by(WINDOW).map(|place| (place, read_window(self.book, place)))
