@@ -169,6 +169,26 @@ extern "C" {
         sets: *mut u64,
         sets_len: usize,
     ) -> Listing;
+    fn nekbrod_question_at_hour(
+        state: State,
+        tree_store: *const u8,
+        tree_store_len: usize,
+        sheet_store: *const u8,
+        sheet_store_len: usize,
+        book: *const u8,
+        book_len: usize,
+        k: u32,
+        n: u32,
+        hour: u32,
+        buffer: *mut u8,
+        buffer_len: usize,
+        lower: *mut u32,
+        lower_len: usize,
+        upper: *mut u32,
+        upper_len: usize,
+        marks: *mut u8,
+        marks_len: usize,
+    ) -> Reply;
 }
 
 /// The proved library.
@@ -180,7 +200,7 @@ pub const CAPI: Library = declared_library!(
     nekbrod_judge,
     nekbrod_question,
     Some(CutSets { count: nekbrod_count_cut_sets, list: nekbrod_list_cut_sets }),
-    None
+    Some(nekbrod_question_at_hour)
 );
 
 /// The plain C program, src/peer.c.
