@@ -1,5 +1,5 @@
 //! The C interface, declared as in include/nekbrod.h, with a safe function for each call. Two linked libraries have it,
-//! the proved one and the peer, which has no cut sets; others may be found at run time.
+//! the proved one and the peer, which has no cut sets and no question at an hour; others may be found at run time.
 
 use std::ffi::{c_void, CStr};
 use std::mem::transmute;
@@ -74,6 +74,12 @@ type Question = unsafe extern "C" fn(
     State, *const u8, usize, *const u8, usize, u32, u32, *mut u32, usize, *mut u32, usize, *mut u8, usize,
 ) -> Reply;
 
+#[rustfmt::skip]
+type QuestionAtHour = unsafe extern "C" fn(
+    State, *const u8, usize, *const u8, usize, *const u8, usize, u32, u32, u32, *mut u8, usize, *mut u32, usize,
+    *mut u32, usize, *mut u8, usize,
+) -> Reply;
+
 /// The calls for minimal cut sets.
 #[derive(Clone, Copy)]
 struct CutSets {
@@ -91,13 +97,14 @@ pub struct Library {
     judge: Judge,
     question: Question,
     cut_sets: Option<CutSets>,
+    question_at_hour: Option<QuestionAtHour>,
 }
 
 /// The library whose calls have these names.
 macro_rules! declared_library {
     (
         $name:literal, $hand_in_tree:ident, $hand_in_sheet:ident, $drop_both:ident, $judge:ident, $question:ident,
-        $cut_sets:expr
+        $cut_sets:expr, $question_at_hour:expr
     ) => {{
         extern "C" {
             fn $hand_in_tree(
@@ -148,6 +155,7 @@ macro_rules! declared_library {
             judge: $judge,
             question: $question,
             cut_sets: $cut_sets,
+            question_at_hour: $question_at_hour,
         }
     }};
 }
@@ -161,6 +169,26 @@ extern "C" {
         sets: *mut u64,
         sets_len: usize,
     ) -> Listing;
+    fn nekbrod_question_at_hour(
+        state: State,
+        tree_store: *const u8,
+        tree_store_len: usize,
+        sheet_store: *const u8,
+        sheet_store_len: usize,
+        book: *const u8,
+        book_len: usize,
+        k: u32,
+        n: u32,
+        hour: u32,
+        buffer: *mut u8,
+        buffer_len: usize,
+        lower: *mut u32,
+        lower_len: usize,
+        upper: *mut u32,
+        upper_len: usize,
+        marks: *mut u8,
+        marks_len: usize,
+    ) -> Reply;
 }
 
 /// The proved library.
@@ -171,12 +199,21 @@ pub const CAPI: Library = declared_library!(
     nekbrod_drop_both,
     nekbrod_judge,
     nekbrod_question,
-    Some(CutSets { count: nekbrod_count_cut_sets, list: nekbrod_list_cut_sets })
+    Some(CutSets { count: nekbrod_count_cut_sets, list: nekbrod_list_cut_sets }),
+    Some(nekbrod_question_at_hour)
 );
 
 /// The plain C program, src/peer.c.
-pub const PEER: Library =
-    declared_library!("peer", peer_hand_in_tree, peer_hand_in_sheet, peer_drop_both, peer_judge, peer_question, None);
+pub const PEER: Library = declared_library!(
+    "peer",
+    peer_hand_in_tree,
+    peer_hand_in_sheet,
+    peer_drop_both,
+    peer_judge,
+    peer_question,
+    None,
+    None
+);
 
 /// An empty slice goes as the null pointer, as C's callers may pass one.
 fn read<T>(slice: &[T]) -> *const T {
@@ -202,8 +239,16 @@ pub struct Work<'a> {
     pub marks: &'a mut [u8],
 }
 
+/// The book of work windows, the hour, and the buffer that a question at an hour is lent.
+pub struct Plan<'a> {
+    pub book: &'a [u8],
+    pub hour: u32,
+    pub buffer: &'a mut [u8],
+}
+
 impl Library {
-    /// The library whose calls are found by their names in the header; without the cut sets, which no one asks it for.
+    /// The library whose calls are found by their names in the header; without the cut sets and the question at an
+    /// hour, which no one asks it for.
     ///
     /// # Safety
     /// An address that is found is that of the call, with the header's types, for as long as the program runs.
@@ -219,6 +264,7 @@ impl Library {
             judge: transmute::<NonNull<c_void>, Judge>(find(c"nekbrod_judge")?),
             question: transmute::<NonNull<c_void>, Question>(find(c"nekbrod_question")?),
             cut_sets: None,
+            question_at_hour: None,
         })
     }
 
@@ -264,8 +310,41 @@ impl Library {
         }
     }
 
-    pub fn has_cut_sets(&self) -> bool {
-        self.cut_sets.is_some()
+    /// Nothing where the library has no such question.
+    pub fn question_at_hour(
+        &self,
+        state: State,
+        tree: &[u8],
+        sheet: &[u8],
+        [k, n]: [u32; 2],
+        plan: Plan,
+        work: Work,
+    ) -> Option<Reply> {
+        let Plan { book, hour, buffer } = plan;
+        let Work { lower, upper, marks } = work;
+        // SAFETY: as for a question.
+        self.question_at_hour.map(|call| unsafe {
+            call(
+                state,
+                read(tree),
+                tree.len(),
+                read(sheet),
+                sheet.len(),
+                read(book),
+                book.len(),
+                k,
+                n,
+                hour,
+                written(buffer),
+                buffer.len(),
+                written(lower),
+                lower.len(),
+                written(upper),
+                upper.len(),
+                written(marks),
+                marks.len(),
+            )
+        })
     }
 
     /// Nothing where the library has no cut sets.

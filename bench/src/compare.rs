@@ -1,9 +1,10 @@
 //! Generated cases through the C library, the peer and the reference: lists of calls, and the level printer's inputs as
-//! calls.
+//! calls, with questions at some hours between them.
 
 use crate::capi::{CAPI, PEER};
 use crate::desk::{guarded, Desk, Difference, Tally};
 use reference::calls::{parse_call, Call};
+use reference::cases::books::{any_book, bad_book, hour_near};
 use reference::cases::fractions::FRACTION_CASES;
 use reference::cases::large_damage::LARGE_DAMAGES;
 use reference::cases::limits::LIMITS;
@@ -11,10 +12,12 @@ use reference::cases::valid::{lively_pair, small_tree};
 use reference::cases::vector_list::vector_list;
 use reference::cases::{is_input, write_case, Kind};
 use reference::cut::Level;
+use reference::describe::book_bytes;
 use reference::levels::INPUT_HEADER;
 use reference::random::Random;
 use reference::sheet_judge::judge_sheet;
 use reference::tree_judge::judge_tree;
+use reference::work_windows::Window;
 use reference::{opinion_sheet, tree_file};
 use std::fmt::{self, Display, Formatter};
 
@@ -52,10 +55,10 @@ impl Case {
     fn calls(self, seed: u64) -> Vec<Call> {
         match self {
             Case::Stored => vector_list(),
-            Case::Limit(index) => input_calls(&write_case(Kind::Limits, seed, index), seed ^ index),
-            Case::Large(index) => input_calls(&write_case(Kind::Large, seed, index), seed ^ index),
-            Case::Fractions(index) => input_calls(&write_case(Kind::Fractions, seed, index), seed ^ index),
-            Case::Generated(index) => generated_calls(seed, index),
+            Case::Limit(index) => listed_calls(Kind::Limits, seed, index),
+            Case::Large(index) => listed_calls(Kind::Large, seed, index),
+            Case::Fractions(index) => listed_calls(Kind::Fractions, seed, index),
+            Case::Generated(index) => with_hours(generated_calls(seed, index), seed ^ index),
         }
     }
 }
@@ -106,6 +109,10 @@ fn run_calls(desk: &mut Desk, calls: &[Call]) -> Result<(), (usize, Difference)>
     Ok(())
 }
 
+fn listed_calls(kind: Kind, seed: u64, index: u64) -> Vec<Call> {
+    with_hours(input_calls(&write_case(kind, seed, index), seed ^ index), seed ^ index)
+}
+
 /// A list of calls, an input of the printer, a list of calls for cut sets and an input with fraction entries by turns;
 /// each kind keeps a count of its own.
 fn generated_calls(seed: u64, index: u64) -> Vec<Call> {
@@ -154,6 +161,73 @@ fn input_calls(input: &[u8], pair_seed: u64) -> Vec<Call> {
     calls.extend([Call::Count, Call::CutSets(LISTED)]);
     calls.extend([Call::Drop, Call::Judge(Level { k: 0, n: 1 }), Call::Count]);
     calls
+}
+
+/// Percent of questions with one at an hour behind it, of these with a book of their own, and of books with a fault.
+const HOUR_SHARE: usize = 40;
+const BOOK_SHARE: usize = 40;
+const BAD_SHARE: usize = 16;
+
+/// The calls, and behind some questions the same at an hour.
+fn with_hours(calls: Vec<Call>, hour_seed: u64) -> Vec<Call> {
+    let random = &mut Random::for_case(hour_seed, 1);
+    let mut planner = Planner { events: 1, sheet_length: opinion_sheet::file_length(1), windows: None };
+    let mut all = Vec::new();
+    for call in calls {
+        planner.see(&call);
+        let question = match call {
+            Call::Question(level, places) if random.percent(HOUR_SHARE) => Some(Call::HourQuestion(level, places)),
+            _ => None,
+        };
+        all.push(call);
+        if let Some(question) = question {
+            all.extend(planner.plan(random));
+            all.push(question);
+        }
+    }
+    all
+}
+
+/// E of the last good tree and the length of the last good sheet handed in, and the windows of the book.
+struct Planner {
+    events: usize,
+    sheet_length: usize,
+    windows: Option<Vec<Window>>,
+}
+
+impl Planner {
+    fn see(&mut self, call: &Call) {
+        match call {
+            Call::Tree(file) => self.events = judge_tree(file).map_or(self.events, |tree| tree.events),
+            Call::Sheet(file) if judge_sheet(file).is_ok() => self.sheet_length = file.len(),
+            _ => (),
+        }
+    }
+
+    /// At first and at times another book; then an hour and a buffer.
+    fn plan(&mut self, random: &mut Random) -> Vec<Call> {
+        let mut calls = Vec::new();
+        if self.windows.is_none() || random.percent(BOOK_SHARE) {
+            let windows = any_book(random, self.events);
+            let bad = random.percent(BAD_SHARE);
+            calls.push(Call::Book(if bad { bad_book(random, self.events) } else { book_bytes(&windows) }));
+            self.windows = Some(windows);
+        }
+        let hour = hour_near(random, self.windows.as_deref().unwrap_or(&[]));
+        calls.push(Call::Hour(hour, any_buffer(random, self.sheet_length)));
+        calls
+    }
+}
+
+/// The sheet's length more often than one beside it, and at times none or many bytes.
+pub fn any_buffer(random: &mut Random, sheet_length: usize) -> usize {
+    match random.below(16) {
+        0 => sheet_length - 1,
+        1 => 0,
+        2 => opinion_sheet::file_length(opinion_sheet::MOST_EVENTS),
+        3..=7 => sheet_length + random.between(1, 40),
+        _ => sheet_length,
+    }
 }
 
 fn level_calls(level: Level) -> [Call; 2] {

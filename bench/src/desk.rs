@@ -2,7 +2,7 @@
 //! the answer, the state and every byte of each memory must be those of the reference, but for the order of listed
 //! sets.
 
-use crate::capi::{Library, State, Work};
+use crate::capi::{self, Library, State, Work};
 use crate::expected;
 use reference::calls::{Call, LOWER_FILL, MARK_FILL, SET_FILL, STORE_FILL, UPPER_FILL};
 use reference::cut::Level;
@@ -10,6 +10,7 @@ use reference::cut_sets;
 use reference::evaluation::WorkSlices;
 use reference::monitor::{self, Stores};
 use reference::opinion_sheet;
+use reference::work_windows::{self, Plan};
 use std::fmt::Debug;
 use std::panic::{self, AssertUnwindSafe};
 
@@ -28,18 +29,46 @@ pub fn guarded(work: impl FnOnce() -> Checked) -> Checked {
 /// Places of each work slice; a question is lent the first ones, and the others are watched.
 pub const ROOM: usize = 1_100;
 
-/// Places watched behind the slice that a list is lent.
-const WATCHED_SETS: usize = 8;
+/// Places watched behind the slice that a list is lent, and behind the buffer.
+const WATCHED: usize = 8;
 
 #[derive(Clone, PartialEq, Eq)]
 struct Memory {
     tree: Vec<u8>,
     sheet: Vec<u8>,
+    slices: Slices,
+    book: Vec<u8>,
+    buffer: Vec<u8>,
+    /// Filled anew for each list, and compared after it.
+    sets: Vec<u64>,
+}
+
+/// The work slices.
+#[derive(Clone, PartialEq, Eq)]
+struct Slices {
     lower: Vec<u32>,
     upper: Vec<u32>,
     marks: Vec<u8>,
-    /// Filled anew for each list, and compared after it.
-    sets: Vec<u64>,
+}
+
+impl Slices {
+    fn fill(&mut self) {
+        self.lower.fill(LOWER_FILL);
+        self.upper.fill(UPPER_FILL);
+        self.marks.fill(MARK_FILL);
+    }
+
+    /// The first places of each, there being never more than `ROOM`.
+    fn lent(&mut self, places: [usize; 3]) -> Work<'_> {
+        let [lower, upper, marks] = places.map(|places| places.min(ROOM));
+        Work { lower: &mut self.lower[..lower], upper: &mut self.upper[..upper], marks: &mut self.marks[..marks] }
+    }
+
+    /// The same as the reference takes them.
+    fn lent_to_reference(&mut self, places: [usize; 3]) -> WorkSlices<'_> {
+        let Work { lower, upper, marks } = self.lent(places);
+        WorkSlices { lower, upper, marks }
+    }
 }
 
 /// How many calls were compared.
@@ -58,6 +87,10 @@ pub struct Tally {
     pub lists: u64,
     pub listed: u64,
     pub sets: u64,
+    /// Questions at an hour, those answered, and those answered with a window open.
+    pub hour_questions: u64,
+    pub hours_answered: u64,
+    pub open: u64,
 }
 
 impl Tally {
@@ -72,11 +105,15 @@ impl Tally {
         self.lists += other.lists;
         self.listed += other.listed;
         self.sets += other.sets;
+        self.hour_questions += other.hour_questions;
+        self.hours_answered += other.hours_answered;
+        self.open += other.open;
     }
 }
 
 pub struct Desk {
     state: State,
+    hour: u32,
     libraries: Vec<(Library, Memory)>,
     reference: Memory,
     pub tally: Tally,
@@ -87,26 +124,36 @@ impl Desk {
         let memory = Memory {
             tree: Vec::new(),
             sheet: Vec::new(),
-            lower: vec![LOWER_FILL; ROOM],
-            upper: vec![UPPER_FILL; ROOM],
-            marks: vec![MARK_FILL; ROOM],
+            slices: Slices {
+                lower: vec![LOWER_FILL; ROOM],
+                upper: vec![UPPER_FILL; ROOM],
+                marks: vec![MARK_FILL; ROOM],
+            },
+            book: Vec::new(),
+            buffer: vec![STORE_FILL; WATCHED],
             sets: Vec::new(),
         };
         Desk {
             state: State::default(),
+            hour: 0,
             libraries: libraries.iter().map(|&library| (library, memory.clone())).collect(),
             reference: memory,
             tally: Tally::default(),
         }
     }
 
-    /// Runs a call of the reference's lists. A question's slices are filled before it, as such lists say.
+    /// Runs a call of the reference's lists. A question's slices and buffer are filled before it, as such lists say.
     pub fn run(&mut self, call: &Call) -> Checked {
         match call {
             Call::Stores(tree, sheet) => self.set_stores(*tree, *sheet),
             Call::PokeTree(place, byte) => self.poke_tree(*place as usize, *byte),
             Call::PokeSheet(place, byte) => self.poke_sheet(*place as usize, *byte),
             Call::Held(state) => self.set_state(expected::state(*state)),
+            Call::Book(book) => self.set_book(book),
+            Call::Hour(hour, buffer) => {
+                self.set_hour(*hour);
+                self.set_buffer(*buffer);
+            }
             Call::Tree(file) => return self.hand_in_tree(file),
             Call::Sheet(file) => return self.hand_in_sheet(file),
             Call::Drop => return self.drop_both(),
@@ -117,6 +164,11 @@ impl Desk {
             }
             Call::Count => return self.count_cut_sets(),
             Call::CutSets(places) => return self.list_cut_sets(*places),
+            Call::HourQuestion(level, places) => {
+                self.fill_slices();
+                self.fill_buffer();
+                return self.question_at_hour(*level, *places);
+            }
         }
         Ok(())
     }
@@ -152,11 +204,24 @@ impl Desk {
     }
 
     pub fn fill_slices(&mut self) {
-        for memory in self.memories() {
-            memory.lower.fill(LOWER_FILL);
-            memory.upper.fill(UPPER_FILL);
-            memory.marks.fill(MARK_FILL);
-        }
+        self.memories().for_each(|memory| memory.slices.fill());
+    }
+
+    pub fn set_book(&mut self, book: &[u8]) {
+        self.memories().for_each(|memory| memory.book = book.to_vec());
+    }
+
+    pub fn set_hour(&mut self, hour: u32) {
+        self.hour = hour;
+    }
+
+    /// A buffer of that length, and watched bytes behind it; bytes there stay, and new ones are ee.
+    pub fn set_buffer(&mut self, length: usize) {
+        self.memories().for_each(|memory| memory.buffer.resize(length + WATCHED, STORE_FILL));
+    }
+
+    pub fn fill_buffer(&mut self) {
+        self.memories().for_each(|memory| memory.buffer.fill(STORE_FILL));
     }
 
     fn memories(&mut self) -> impl Iterator<Item = &mut Memory> {
@@ -168,7 +233,9 @@ impl Desk {
         let wanted = monitor::hand_in_tree(expected::held(state), &mut self.reference.tree, file);
         self.count_hand_in(wanted.1.is_ok());
         self.state = expected::state(wanted.0);
-        self.compare(expected::answer(wanted), |library, memory| library.hand_in_tree(state, file, &mut memory.tree))
+        self.compare(expected::answer(wanted), |library, memory| {
+            Some(library.hand_in_tree(state, file, &mut memory.tree))
+        })
     }
 
     pub fn hand_in_sheet(&mut self, sheet: &[u8]) -> Checked {
@@ -176,13 +243,15 @@ impl Desk {
         let wanted = monitor::hand_in_sheet(expected::held(state), &mut self.reference.sheet, sheet);
         self.count_hand_in(wanted.1.is_ok());
         self.state = expected::state(wanted.0);
-        self.compare(expected::answer(wanted), |library, memory| library.hand_in_sheet(state, sheet, &mut memory.sheet))
+        self.compare(expected::answer(wanted), |library, memory| {
+            Some(library.hand_in_sheet(state, sheet, &mut memory.sheet))
+        })
     }
 
     pub fn drop_both(&mut self) -> Checked {
         let state = self.state;
         self.state = expected::state(monitor::drop_both(expected::held(state)));
-        self.compare(self.state, |library, _| library.drop_both(state))
+        self.compare(self.state, |library, _| Some(library.drop_both(state)))
     }
 
     pub fn judge(&mut self, Level { k, n }: Level) -> Checked {
@@ -190,21 +259,15 @@ impl Desk {
         let stores = Stores { tree: &self.reference.tree, sheet: &self.reference.sheet };
         let (_, wanted) = monitor::judge(expected::held(state), stores, Level { k, n });
         self.compare(expected::standing(wanted), |library, memory| {
-            library.judge(state, &memory.tree, &memory.sheet, k, n)
+            Some(library.judge(state, &memory.tree, &memory.sheet, k, n))
         })
     }
 
-    /// Lends the first places of each slice; there are never more than `ROOM`.
     pub fn question(&mut self, Level { k, n }: Level, places: [usize; 3]) -> Checked {
         let state = self.state;
-        let [lower, upper, marks] = places.map(|places| places.min(ROOM));
         let memory = &mut self.reference;
         let stores = Stores { tree: &memory.tree, sheet: &memory.sheet };
-        let work = WorkSlices {
-            lower: &mut memory.lower[..lower],
-            upper: &mut memory.upper[..upper],
-            marks: &mut memory.marks[..marks],
-        };
+        let work = memory.slices.lent_to_reference(places);
         let wanted = monitor::question(expected::held(state), stores, Level { k, n }, work);
         self.tally.questions += 1;
         self.tally.answered += u64::from(wanted.1.is_ok());
@@ -212,19 +275,34 @@ impl Desk {
         self.tally.unheld += u64::from(wanted.1.is_err_and(|refusal| [21, 22].contains(&refusal.number)));
         self.state = expected::state(wanted.0);
         self.compare(expected::reply(wanted), |library, memory| {
-            let work = Work {
-                lower: &mut memory.lower[..lower],
-                upper: &mut memory.upper[..upper],
-                marks: &mut memory.marks[..marks],
-            };
-            library.question(state, &memory.tree, &memory.sheet, k, n, work)
+            Some(library.question(state, &memory.tree, &memory.sheet, k, n, memory.slices.lent(places)))
+        })
+    }
+
+    /// A question by the book and at the hour last set, with the buffer as it is.
+    pub fn question_at_hour(&mut self, Level { k, n }: Level, places: [usize; 3]) -> Checked {
+        let (state, hour) = (self.state, self.hour);
+        let memory = &mut self.reference;
+        let length = memory.buffer.len() - WATCHED;
+        let stores = Stores { tree: &memory.tree, sheet: &memory.sheet };
+        let (plan, work) = (Plan { book: &memory.book, hour }, memory.slices.lent_to_reference(places));
+        let buffer = &mut memory.buffer[..length];
+        let held = expected::held(state);
+        let wanted = work_windows::question_at_hour(held, stores, Level { k, n }, plan, buffer, work);
+        self.tally.hour_questions += 1;
+        self.tally.hours_answered += u64::from(wanted.1.is_ok());
+        self.tally.open += u64::from(wanted.1.is_ok() && plan.has_open());
+        self.state = expected::state(wanted.0);
+        self.compare(expected::reply(wanted), |library, memory| {
+            let plan = capi::Plan { book: &memory.book, hour, buffer: &mut memory.buffer[..length] };
+            library.question_at_hour(state, &memory.tree, &memory.sheet, [k, n], plan, memory.slices.lent(places))
         })
     }
 
     pub fn count_cut_sets(&mut self) -> Checked {
         let state = self.state;
         let wanted = expected::set_count(cut_sets::count_sets(expected::held(state), &self.reference.tree));
-        self.compare(wanted, |library, memory| library.count_cut_sets(state, &memory.tree).unwrap_or(wanted))
+        self.compare(wanted, |library, memory| library.count_cut_sets(state, &memory.tree))
     }
 
     /// Lends that many filled places; those behind them are watched. Sets are compared in rising order.
@@ -232,7 +310,7 @@ impl Desk {
         let state = self.state;
         for memory in self.memories() {
             memory.sets.clear();
-            memory.sets.resize(places + WATCHED_SETS, SET_FILL);
+            memory.sets.resize(places + WATCHED, SET_FILL);
         }
         let memory = &mut self.reference;
         let wanted = cut_sets::list_sets(expected::held(state), &memory.tree, &mut memory.sets[..places]);
@@ -243,10 +321,8 @@ impl Desk {
         self.tally.listed += u64::from(wanted.refusal.number == 0);
         self.tally.sets += wanted.count;
         self.state = wanted.state;
-        self.compare(wanted, |library, memory| {
-            library.list_cut_sets(state, &memory.tree, &mut memory.sets[..places]).unwrap_or(wanted)
-        })?;
-        for (library, memory) in self.libraries.iter_mut().filter(|(library, _)| library.has_cut_sets()) {
+        self.compare(wanted, |library, memory| library.list_cut_sets(state, &memory.tree, &mut memory.sets[..places]))?;
+        for (library, memory) in &mut self.libraries {
             memory.sets[..count].sort_unstable();
             let found = same_places("sets in rising order", &memory.sets, &self.reference.sets);
             found.map_err(|Difference(left)| Difference(format!("{} {left}", library.name)))?;
@@ -259,11 +335,19 @@ impl Desk {
         self.tally.accepted += u64::from(accepted);
     }
 
-    /// Each library is asked, and must answer and leave what the reference does.
-    fn compare<T: PartialEq + Debug>(&mut self, wanted: T, ask: impl Fn(&Library, &mut Memory) -> T) -> Checked {
+    /// Each library is asked, and must answer and leave what the reference does. One that has no such call gets what
+    /// the reference left.
+    fn compare<T: PartialEq + Debug>(
+        &mut self,
+        wanted: T,
+        ask: impl Fn(&Library, &mut Memory) -> Option<T>,
+    ) -> Checked {
         self.tally.calls += 1;
         for (library, memory) in &mut self.libraries {
-            let found = ask(library, memory);
+            let Some(found) = ask(library, memory) else {
+                memory.clone_from(&self.reference);
+                continue;
+            };
             if found != wanted {
                 return Err(Difference(format!("{} answers {found:?}, reference {wanted:?}", library.name)));
             }
@@ -279,9 +363,11 @@ impl Memory {
     fn same_as(&self, wanted: &Memory) -> Checked {
         same_places("tree store", &self.tree, &wanted.tree)?;
         same_places("sheet store", &self.sheet, &wanted.sheet)?;
-        same_places("lower ends", &self.lower, &wanted.lower)?;
-        same_places("upper ends", &self.upper, &wanted.upper)?;
-        same_places("marks", &self.marks, &wanted.marks)
+        same_places("lower ends", &self.slices.lower, &wanted.slices.lower)?;
+        same_places("upper ends", &self.slices.upper, &wanted.slices.upper)?;
+        same_places("marks", &self.slices.marks, &wanted.slices.marks)?;
+        same_places("book", &self.book, &wanted.book)?;
+        same_places("buffer", &self.buffer, &wanted.buffer)
     }
 }
 

@@ -12,4 +12,5 @@ pub mod timing;
 pub mod ratios;
 pub mod marked_sheets;
 pub mod gates;
+pub mod windows;
 pub mod sets;

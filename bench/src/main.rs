@@ -10,6 +10,7 @@ use bench::ratios::{self, Entries, Shape};
 use bench::sets;
 use bench::soak::soak;
 use bench::timing::{Contestant, Cost};
+use bench::windows::{self, Book};
 use std::process::ExitCode;
 use std::time::{Instant, SystemTime, UNIX_EPOCH};
 
@@ -20,6 +21,8 @@ bench gates [LIBRARY]               questions on trees of AND gates alone, OR ga
 bench compare [SEED COUNT [FIRST]]  generated cases through capi, the peer and reference/, from case FIRST on; with no
                                     FIRST all limits and all faults in large files and in fraction entries too
 bench soak [SEED CALLS]             calls in a random order through capi and reference/, each checked
+bench windows                       questions at an hour through capi, with books of up to 256 windows, none open and
+                                    all: beside plain questions and beside reference/
 bench sets                          lists of up to a million cut sets through capi beside reference/: ratios, and the
                                     cost per set
 LIBRARY is a shared library of another commit, timed beside both in the same run.
@@ -48,6 +51,20 @@ const ENTRIES: [(Entries, &str); 4] = [
 const GATES: [(Gates, &str); 3] = [(Gates::And, "AND"), (Gates::Or, "OR"), (Gates::Mixed, "mixed")];
 const GATE_NODES: [usize; 2] = [64, 1_023];
 const MARKS: [(Marks, &str); 3] = [(Marks::All, "all"), (Marks::None, "none"), (Marks::Mixed, "mixed")];
+
+/// The trees, entries and books of `bench windows`.
+const WINDOW_TREES: [(Shape, usize); 3] = [(Shape::Paired, 64), (Shape::Paired, 1_023), (Shape::MostEvents, 1_024)];
+const WINDOW_ENTRIES: [(Entries, &str); 3] =
+    [(Entries::Numbers, "four numbers"), (Entries::Opinions, "opinions"), (Entries::Fractions, "fractions")];
+const BOOKS: [Book; 7] = [
+    Book { windows: 0, open: false },
+    Book { windows: 16, open: false },
+    Book { windows: 16, open: true },
+    Book { windows: 64, open: false },
+    Book { windows: 64, open: true },
+    Book { windows: 256, open: false },
+    Book { windows: 256, open: true },
+];
 
 fn main() -> ExitCode {
     let arguments: Vec<String> = std::env::args().skip(1).collect();
@@ -80,6 +97,7 @@ fn run(words: &[&str]) -> Option<Result<bool, String>> {
             run_compare(Cases { seed: seed.parse().ok()?, count: count.parse().ok()?, first: first.parse().ok()? })
         }
         ["sets"] => print_sets(),
+        ["windows"] => print_windows(),
         ["soak"] => run_soak(any_seed(), SOAK_CALLS),
         ["soak", seed, calls] => run_soak(seed.parse().ok()?, calls.parse().ok()?),
         ["help" | "--help"] => return None,
@@ -95,11 +113,14 @@ fn any_seed() -> u64 {
 }
 
 fn counts(tally: Tally) -> String {
-    let Tally { calls, questions, answered, fractions, unheld, hand_ins, accepted, lists, listed, sets } = tally;
+    let Tally { calls, questions, answered, fractions, unheld, hand_ins, accepted, lists, listed, sets, .. } = tally;
+    let Tally { hour_questions, hours_answered, open, .. } = tally;
     let answered = format!("{answered} answered, {fractions} of these with fraction entries");
     let questions = format!("{questions} questions, {answered}, {unheld} with nothing to answer from");
     let lists = format!("{lists} lists of cut sets, {listed} answered with {sets} sets");
-    format!("{calls} calls: {questions}; {hand_ins} hand-ins, {accepted} accepted; {lists}")
+    let hours =
+        format!("{hour_questions} questions at an hour, {hours_answered} answered, {open} of these with a window open");
+    format!("{calls} calls: {questions}; {hand_ins} hand-ins, {accepted} accepted; {lists}; {hours}")
 }
 
 fn run_compare(cases: Cases) -> bool {
@@ -183,6 +204,27 @@ fn print_gates(loaded: Option<Loaded>) -> bool {
         let (capi, reference, ratio) = (cost.times[0], cost.times[1], cost.ratios[0]);
         print!("{gates:6} {:6}  {marks:6} {capi:9.0} {reference:10.0} {ratio:15.2}", size.nodes);
         println!("{}", before_columns(&cost));
+    }
+    true
+}
+
+fn print_windows() -> bool {
+    let mut sizes = Vec::new();
+    let mut names = Vec::new();
+    for (entries, name) in WINDOW_ENTRIES {
+        for ((shape, nodes), book) in WINDOW_TREES.iter().flat_map(|&tree| BOOKS.map(|book| (tree, book))) {
+            sizes.push((ratios::Size { shape, nodes, entries }, book));
+            names.push(name);
+        }
+    }
+    let costs = windows::costs(&sizes);
+    println!("                                          a question, ns");
+    println!("entries       nodes events windows open  at an hour     plain  reference  hour/plain  hour/reference");
+    for (((size, book), name), (events, cost)) in sizes.iter().zip(names).zip(costs) {
+        let open = if book.open { "all" } else { "none" };
+        print!("{name:12} {:6} {events:6} {:7} {open:4}", size.nodes, book.windows);
+        print!(" {:11.0} {:9.0} {:10.0}", cost.times[0], cost.times[1], cost.times[2]);
+        println!(" {:11.2} {:15.2}", cost.ratios[0], cost.ratios[1]);
     }
     true
 }

@@ -44,7 +44,7 @@ pub fn costs(sizes: &[Size], contestants: &[Contestant]) -> Vec<(usize, Cost)> {
     pairs.iter().map(|pair| pair.entries.len()).zip(timing::costs(benches)).collect()
 }
 
-fn pair(size: Size) -> Pair {
+pub fn pair(size: Size) -> Pair {
     let random = &mut Random::for_case(size.nodes as u64, 0);
     let nodes = match size.shape {
         Shape::Paired => paired_tree(size.nodes, |inputs| gate(random, inputs)),

@@ -1,9 +1,11 @@
-//! Calls in a random order on a desk for the C library: questions, judgements, cut sets, hand-ins good and bad and
-//! drops, with changed store bytes, states and store lengths between them. Most trees are small, so that many calls
-//! take little time.
+//! Calls in a random order on a desk for the C library: questions, alone and at an hour, judgements, cut sets, hand-ins
+//! good and bad and drops, with changed store bytes, states, store lengths, books and buffers between them. Most trees
+//! are small, so that many calls take little time.
 
 use crate::capi::{State, CAPI};
+use crate::compare::any_buffer;
 use crate::desk::{guarded, Checked, Desk, Difference, Tally};
+use reference::cases::books::{any_book, bad_book, hour_near};
 use reference::cases::fraction_damage::faulty_sheet;
 use reference::cases::fraction_entries::{fractions_alone, fractions_beside};
 use reference::cases::set_trees::{set_count, set_tree};
@@ -12,8 +14,9 @@ use reference::cases::tree_damage::TREE_DAMAGES;
 use reference::cases::trees::{chain, most_events, random_tree, Shape};
 use reference::cases::valid::{any_pair, lively_pair, small_tree};
 use reference::cut::Level;
-use reference::describe::Node;
+use reference::describe::{book_bytes, Node};
 use reference::random::Random;
+use reference::work_windows::Window;
 
 /// Calls between two changes of the files at hand.
 const CALLS_A_SHELF: u64 = 20_000;
@@ -33,11 +36,12 @@ enum Trees {
     Sets,
 }
 
-/// The files of a pair, its number of nodes, and the number of minimal cut sets where there are not too many.
+/// The files of a pair, its number of nodes and of events, and that of minimal cut sets where there are not too many.
 struct Files {
     tree: Vec<u8>,
     sheet: Vec<u8>,
     nodes: usize,
+    events: usize,
     sets: usize,
 }
 
@@ -82,7 +86,7 @@ fn any_files(random: &mut Random, trees: Trees) -> Files {
         4 => fractions_alone(random, nodes),
         _ => fractions_beside(random, nodes),
     };
-    Files { tree: pair.tree(), sheet: pair.sheet(), nodes: count, sets }
+    Files { tree: pair.tree(), sheet: pair.sheet(), nodes: count, events: pair.entries.len(), sets }
 }
 
 fn little_tree(random: &mut Random) -> Vec<Node> {
@@ -111,13 +115,15 @@ struct Soak {
     shelf: Shelf,
     /// The pair that most hand-ins and questions are about.
     chosen: usize,
+    /// Those of the book, or of one like it where the book has a fault.
+    windows: Vec<Window>,
 }
 
 /// Runs calls until that many were compared, or to the first difference.
 pub fn soak(seed: u64, calls: u64) -> (Tally, Result<(), Difference>) {
     let mut random = Random::for_case(seed, 0);
     let shelf = Shelf::new(&mut random, Trees::Little);
-    let mut soak = Soak { random, desk: Desk::new(&[CAPI]), shelf, chosen: 0 };
+    let mut soak = Soak { random, desk: Desk::new(&[CAPI]), shelf, chosen: 0, windows: vec![] };
     let outcome = guarded(|| soak.run(calls));
     (soak.desk.tally, outcome)
 }
@@ -156,6 +162,11 @@ impl Soak {
             33 => self.change_stores(),
             34 | 35 => self.desk.count_cut_sets(),
             36..=40 => self.list_cut_sets(),
+            41 | 42 => {
+                self.change_book();
+                Ok(())
+            }
+            43..=54 => self.question_at_hour(),
             _ => self.question(),
         }
     }
@@ -164,12 +175,13 @@ impl Soak {
         &self.shelf.pairs[self.chosen]
     }
 
-    /// Another pair is handed in whole, into stores that have room for it.
+    /// Another pair is handed in whole, into stores that have room for it, and there is a book for it.
     fn take_pair(&mut self) -> Checked {
         self.chosen = self.random.below(PAIRS);
         let (tree, sheet) = (self.pair().tree.len(), self.pair().sheet.len());
         let spare = *self.random.pick(&[0, 1, 30, 200]);
         self.desk.set_stores(tree + spare, sheet + spare);
+        self.change_book();
         let files = &self.shelf.pairs[self.chosen];
         self.desk.hand_in_tree(&files.tree)?;
         self.desk.hand_in_sheet(&files.sheet)
@@ -254,8 +266,13 @@ impl Soak {
         ])
     }
 
-    /// Slices hold what earlier questions left, or are filled anew.
     fn question(&mut self) -> Checked {
+        let (level, places) = self.lent();
+        self.desk.question(level, places)
+    }
+
+    /// A level, and the places of the slices, which hold what earlier questions left or are filled anew.
+    fn lent(&mut self) -> (Level, [usize; 3]) {
         let level = self.level();
         let nodes = self.pair().nodes;
         let mut places = [nodes; 3];
@@ -264,7 +281,28 @@ impl Soak {
             1 => self.desk.fill_slices(),
             _ => places = places.map(|places| places + self.random.below(4)),
         }
-        self.desk.question(level, places)
+        (level, places)
+    }
+
+    /// One in eight has a fault.
+    fn change_book(&mut self) {
+        let events = self.pair().events;
+        self.windows = any_book(&mut self.random, events);
+        let bad = self.random.below(8) == 0;
+        let book = if bad { bad_book(&mut self.random, events) } else { book_bytes(&self.windows) };
+        self.desk.set_book(&book);
+    }
+
+    /// The buffer holds what earlier questions left, or is another.
+    fn question_at_hour(&mut self) -> Checked {
+        self.desk.set_hour(hour_near(&mut self.random, &self.windows));
+        let sheet_length = self.pair().sheet.len();
+        self.desk.set_buffer(any_buffer(&mut self.random, sheet_length));
+        if self.random.percent(20) {
+            self.desk.fill_buffer();
+        }
+        let (level, places) = self.lent();
+        self.desk.question_at_hour(level, places)
     }
 
     fn list_cut_sets(&mut self) -> Checked {

@@ -1,13 +1,14 @@
 //! The same questions to several contestants, with the same buffers, timed. A round goes through every pair of files
 //! and every contestant, so that all see the same machine.
 
-use crate::capi::{Library, Reply, State, Work};
+use crate::capi::{self, Library, Reply, State, Work};
 use crate::expected;
-use reference::calls::{LOWER_FILL, MARK_FILL, UPPER_FILL};
+use reference::calls::{LOWER_FILL, MARK_FILL, STORE_FILL, UPPER_FILL};
 use reference::cases::valid::Pair;
 use reference::cut::Level;
 use reference::evaluation::WorkSlices;
 use reference::monitor::{self, Stores};
+use reference::work_windows::{self, Plan};
 use std::hint::black_box;
 use std::time::Instant;
 
@@ -17,23 +18,28 @@ const TURN_NANOSECONDS: f64 = 1_000_000.0;
 const FIRST_QUESTIONS: u32 = 64;
 const LEVELS: u32 = 1_000;
 
-/// Who answers: a library with the C interface, or the reference.
+/// Who answers: a library with the C interface, or the reference, each by itself or at the hour.
 #[derive(Clone, Copy)]
 pub enum Contestant {
     Library(Library),
     Reference,
+    LibraryAtHour(Library),
+    ReferenceAtHour,
 }
 
-/// A held pair, as every question is lent it.
+/// A held pair, a book and an hour, as every question is lent them.
 struct Held {
     state: State,
     tree: Vec<u8>,
     sheet: Vec<u8>,
+    book: Vec<u8>,
+    hour: u32,
 }
 
-/// The work slices, as every question is lent them.
+/// The buffer and the work slices, as every question is lent them.
 #[derive(Clone, PartialEq, Eq, Debug)]
-struct Slices {
+struct Lent {
+    buffer: Vec<u8>,
     lower: Vec<u32>,
     upper: Vec<u32>,
     marks: Vec<u8>,
@@ -42,7 +48,7 @@ struct Slices {
 /// A pair, the contestants, and what each took in each round.
 pub struct Bench {
     held: Held,
-    slices: Slices,
+    lent: Lent,
     /// Questions in a turn.
     questions: u32,
     contestants: Vec<(Contestant, Vec<f64>)>,
@@ -82,33 +88,53 @@ fn order(contestants: usize, round: usize) -> Vec<usize> {
 impl Contestant {
     fn name(&self) -> &'static str {
         match self {
-            Contestant::Library(library) => library.name,
-            Contestant::Reference => "reference",
+            Contestant::Library(library) | Contestant::LibraryAtHour(library) => library.name,
+            Contestant::Reference | Contestant::ReferenceAtHour => "reference",
         }
     }
 
-    fn question(&self, held: &Held, k: u32, slices: &mut Slices) -> Reply {
-        let Held { state, tree, sheet } = held;
-        let Slices { lower, upper, marks } = slices;
+    fn is_at_hour(&self) -> bool {
+        matches!(self, Contestant::LibraryAtHour(_) | Contestant::ReferenceAtHour)
+    }
+
+    fn question(&self, held: &Held, k: u32, lent: &mut Lent) -> Reply {
+        let Held { state, tree, sheet, book, hour } = held;
+        let Lent { buffer, lower, upper, marks } = lent;
+        let (stores, level) = (Stores { tree, sheet }, Level { k, n: LEVELS });
         match self {
             Contestant::Library(library) => {
                 library.question(*state, tree, sheet, k, LEVELS, Work { lower, upper, marks })
             }
+            Contestant::LibraryAtHour(library) => {
+                let plan = capi::Plan { book, hour: *hour, buffer };
+                let work = Work { lower, upper, marks };
+                library.question_at_hour(*state, tree, sheet, [k, LEVELS], plan, work).expect("it has such a question")
+            }
             Contestant::Reference => {
-                let (stores, level) = (Stores { tree, sheet }, Level { k, n: LEVELS });
                 let work = WorkSlices { lower, upper, marks };
                 expected::reply(monitor::question(expected::held(*state), stores, level, work))
+            }
+            Contestant::ReferenceAtHour => {
+                let (plan, work) = (Plan { book, hour: *hour }, WorkSlices { lower, upper, marks });
+                let held = expected::held(*state);
+                expected::reply(work_windows::question_at_hour(held, stores, level, plan, buffer, work))
             }
         }
     }
 }
 
-impl Slices {
-    fn new(nodes: usize) -> Slices {
-        Slices { lower: vec![LOWER_FILL; nodes], upper: vec![UPPER_FILL; nodes], marks: vec![MARK_FILL; nodes] }
+impl Lent {
+    fn new(nodes: usize, sheet_length: usize) -> Lent {
+        Lent {
+            buffer: vec![STORE_FILL; sheet_length],
+            lower: vec![LOWER_FILL; nodes],
+            upper: vec![UPPER_FILL; nodes],
+            marks: vec![MARK_FILL; nodes],
+        }
     }
 
     fn fill(&mut self) {
+        self.buffer.fill(STORE_FILL);
         self.lower.fill(LOWER_FILL);
         self.upper.fill(UPPER_FILL);
         self.marks.fill(MARK_FILL);
@@ -118,10 +144,21 @@ impl Slices {
 impl Bench {
     /// Every contestant has answered every level, and all alike; the marks of each level's nodes are shown to `watch`.
     pub fn new(pair: &Pair, contestants: &[Contestant], watch: impl FnMut(&[u8])) -> Bench {
+        Bench::with_plan(pair, Plan { book: &[], hour: 0 }, contestants, watch)
+    }
+
+    /// The same with a book and an hour; those that are asked at the hour answer alike, and so do the others.
+    pub fn with_plan(pair: &Pair, plan: Plan, contestants: &[Contestant], watch: impl FnMut(&[u8])) -> Bench {
         let (tree, sheet) = (pair.tree(), pair.sheet());
         let mut bench = Bench {
-            held: Held { state: State { tree_len: tree.len(), sheet_len: sheet.len() }, tree, sheet },
-            slices: Slices::new(pair.nodes.len()),
+            lent: Lent::new(pair.nodes.len(), sheet.len()),
+            held: Held {
+                state: State { tree_len: tree.len(), sheet_len: sheet.len() },
+                tree,
+                sheet,
+                book: plan.book.to_vec(),
+                hour: plan.hour,
+            },
             questions: FIRST_QUESTIONS,
             contestants: contestants.iter().map(|&contestant| (contestant, Vec::new())).collect(),
         };
@@ -131,18 +168,27 @@ impl Bench {
     }
 
     fn warm_up(&mut self, mut watch: impl FnMut(&[u8])) {
-        let (first, others) = self.contestants.split_first().expect("someone answers");
         for k in 0..=LEVELS {
-            self.slices.fill();
-            let wanted = first.0.question(&self.held, k, &mut self.slices);
-            assert_eq!(wanted.refusal.number, 0);
-            watch(&self.slices.marks);
-            let left = self.slices.clone();
-            for (other, _) in others {
-                self.slices.fill();
-                let found = other.question(&self.held, k, &mut self.slices);
-                assert_eq!(found, wanted, "{} and {} at level {k}", other.name(), first.0.name());
-                assert!(self.slices == left, "slices of {} and {} at level {k}", other.name(), first.0.name());
+            let mut answered: Vec<(Contestant, Reply, Lent)> = Vec::new();
+            for (contestant, _) in &self.contestants {
+                self.lent.fill();
+                let found = contestant.question(&self.held, k, &mut self.lent);
+                assert_eq!(found.refusal.number, 0);
+                if answered.is_empty() {
+                    watch(&self.lent.marks);
+                }
+                match answered.iter().find(|(other, ..)| other.is_at_hour() == contestant.is_at_hour()) {
+                    None => answered.push((*contestant, found, self.lent.clone())),
+                    Some((other, wanted, left)) => {
+                        assert_eq!(found, *wanted, "{} and {} at level {k}", contestant.name(), other.name());
+                        assert!(
+                            self.lent == *left,
+                            "slices of {} and {} at level {k}",
+                            contestant.name(),
+                            other.name()
+                        );
+                    }
+                }
             }
         }
     }
@@ -160,7 +206,7 @@ impl Bench {
         let start = Instant::now();
         for question in first..first + self.questions {
             let k = black_box(question % (LEVELS + 1));
-            black_box(contestant.question(&self.held, k, &mut self.slices));
+            black_box(contestant.question(&self.held, k, &mut self.lent));
         }
         start.elapsed().as_nanos() as f64 / self.questions as f64
     }

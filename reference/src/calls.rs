@@ -1,11 +1,14 @@
 //! A list of calls, and every answer with the state, the stores and the slices after it.
 //!
 //! One call or setting a line, words parted by one space, each line ended by a line feed. Numbers are decimal and
-//! below 2^32. HEX is two digits a byte, or `-` for no bytes. At first both stores are empty and nothing is held.
+//! below 2^32. HEX is two digits a byte, or `-` for no bytes. At first both stores, the book and the buffer are empty,
+//! the hour is 0 and nothing is held.
 //!
 //!   stores T S         the tree store gets T bytes and the sheet store S; bytes there stay, new ones are ee
 //!   poke tree I B      byte I of the tree store becomes B, and `poke sheet I B` likewise
 //!   state T S          the held lengths become T and S, 0 for nothing held
+//!   book HEX           the book of work windows becomes HEX
+//!   hour H B           the hour becomes H, and the buffer that an hour question is lent gets B bytes
 //!   tree HEX           hand in a tree
 //!   sheet HEX          hand in a sheet
 //!   drop               drop both
@@ -13,10 +16,11 @@
 //!   question K N L U M question level K of N, with work slices of L, U and M places
 //!   count              count the minimal cut sets of the held tree: refusals 21, 23 and 26
 //!   cut-sets P         list them into a slice of P places: these, and 27
+//!   hour-question K N L U M    a question at the hour, by the book and with the buffer
 //!
-//! The first three are settings and print nothing. A question's slices hold 4000000001, 4000000002 and 238 at every
-//! place before it, and a list's slice 17216961135462248174 (ee in every byte). Store and slice lengths are at most
-//! 65536. Each call prints its answer, one of
+//! The first five are settings and print nothing. A question's slices hold 4000000001, 4000000002 and 238 at every
+//! place before it, a list's slice 17216961135462248174 (ee in every byte), and the buffer ee. Store, buffer and slice
+//! lengths are at most 65536. Each call prints its answer, one of
 //!
 //!   accepted
 //!   dropped
@@ -30,7 +34,8 @@
 //!   state T S
 //!   tree HEX
 //!   sheet HEX
-//!   lower UNITS ...    these three after a question alone; `lower` and nothing more for a slice of 0 places
+//!   buffer HEX         after an hour question alone
+//!   lower UNITS ...    these three after either question; `lower` and nothing more for a slice of 0 places
 //!   upper UNITS ...
 //!   marks BYTE ...
 //!   sets P SUM SQUARES left LEFT    after a list alone
@@ -40,7 +45,9 @@
 //! the list is refused, both sums are 0 and LEFT counts all places.
 //!
 //! In the short form a store of more than 8 bytes is printed as `tree LENGTH FIRST..LAST CHECKSUM`, its first and last
-//! byte in hex, and a slice of more than 8 places as `lower LENGTH FIRST..LAST CHECKSUM`.
+//! byte in hex, and a slice of more than 8 places as `lower LENGTH FIRST..LAST CHECKSUM`. All that there is after an
+//! hour question is then one line, `after HELD LENT`: HELD is the checksum of four numbers, both held lengths and the
+//! checksums of both stores, and LENT that of the checksums of the buffer and the three slices.
 //!
 //! A line that is none of these ends the list: `line I`, with I counted from 1, is the last line printed.
 
@@ -49,8 +56,9 @@ use crate::cut_sets::{count_sets, list_sets};
 use crate::evaluation::WorkSlices;
 use crate::hex::{hex_text, parse_hex};
 use crate::levels::{end_text, refusal_line};
-use crate::monitor::{drop_both, hand_in_sheet, hand_in_tree, judge, question, State, Stores};
+use crate::monitor::{drop_both, hand_in_sheet, hand_in_tree, judge, question, Answer, State, Stores};
 use crate::refusal::Refusal;
+use crate::work_windows::{question_at_hour, Plan};
 use std::fmt::Display;
 
 pub const STORE_FILL: u8 = 0xee;
@@ -71,6 +79,9 @@ pub enum Call {
     PokeTree(u32, u8),
     PokeSheet(u32, u8),
     Held(State),
+    Book(Vec<u8>),
+    /// The hour, and the bytes of the buffer.
+    Hour(u32, usize),
     Tree(Vec<u8>),
     Sheet(Vec<u8>),
     Drop,
@@ -80,6 +91,8 @@ pub enum Call {
     Count,
     /// The places of the slice.
     CutSets(usize),
+    /// As a question.
+    HourQuestion(Level, [usize; 3]),
 }
 
 /// How stores and slices are printed: all of them, or a long one by its ends and its checksum.
@@ -95,6 +108,27 @@ pub struct Desk {
     state: State,
     tree_store: Vec<u8>,
     sheet_store: Vec<u8>,
+    book: Vec<u8>,
+    hour: u32,
+    /// The length of the buffer, which is a fresh one at each hour question.
+    buffer: usize,
+}
+
+/// The work slices of a question.
+struct Slices {
+    lower: Vec<u32>,
+    upper: Vec<u32>,
+    marks: Vec<u8>,
+}
+
+impl Slices {
+    fn new([lower, upper, marks]: [usize; 3]) -> Slices {
+        Slices { lower: vec![LOWER_FILL; lower], upper: vec![UPPER_FILL; upper], marks: vec![MARK_FILL; marks] }
+    }
+
+    fn lent(&mut self) -> WorkSlices<'_> {
+        WorkSlices { lower: &mut self.lower, upper: &mut self.upper, marks: &mut self.marks }
+    }
 }
 
 /// The printed text, and whether every line was understood.
@@ -123,6 +157,8 @@ pub fn parse_call(line: &str) -> Option<Call> {
         ["state", tree, sheet] => {
             Call::Held(State { tree_length: number(tree)? as usize, sheet_length: number(sheet)? as usize })
         }
+        ["book", hex] => Call::Book(parse_hex(hex)?),
+        ["hour", hour, buffer] => Call::Hour(number(hour)?, places(buffer)?),
         ["tree", hex] => Call::Tree(parse_hex(hex)?),
         ["sheet", hex] => Call::Sheet(parse_hex(hex)?),
         ["drop"] => Call::Drop,
@@ -132,13 +168,24 @@ pub fn parse_call(line: &str) -> Option<Call> {
         }
         ["count"] => Call::Count,
         ["cut-sets", sets] => Call::CutSets(places(sets)?),
+        ["hour-question", k, n, lower, upper, marks] => {
+            Call::HourQuestion(Level { k: number(k)?, n: number(n)? }, [places(lower)?, places(upper)?, places(marks)?])
+        }
         _ => return None,
     })
 }
 
 impl Desk {
     pub fn new(form: Form) -> Desk {
-        Desk { form, state: State::default(), tree_store: Vec::new(), sheet_store: Vec::new() }
+        Desk {
+            form,
+            state: State::default(),
+            tree_store: Vec::new(),
+            sheet_store: Vec::new(),
+            book: Vec::new(),
+            hour: 0,
+            buffer: 0,
+        }
     }
 
     /// The text printed for a call, or nothing where a poke is outside its store.
@@ -148,15 +195,16 @@ impl Desk {
             Call::PokeTree(place, byte) => poke(&mut self.tree_store, *place, *byte)?,
             Call::PokeSheet(place, byte) => poke(&mut self.sheet_store, *place, *byte)?,
             Call::Held(state) => self.state = *state,
+            Call::Book(book) => self.book = book.clone(),
+            Call::Hour(hour, buffer) => (self.hour, self.buffer) = (*hour, *buffer),
             Call::Tree(file) => return Some(self.call_tree(file)),
             Call::Sheet(file) => return Some(self.call_sheet(file)),
             Call::Drop => return Some(self.call_drop()),
             Call::Judge(level) => return Some(self.call_judge(*level)),
-            Call::Question(level, [lower, upper, marks]) => {
-                return Some(self.call_question(*level, *lower, *upper, *marks));
-            }
+            Call::Question(level, places) => return Some(self.call_question(*level, *places)),
             Call::Count => return Some(self.call_count()),
             Call::CutSets(places) => return Some(self.call_cut_sets(*places)),
+            Call::HourQuestion(level, places) => return Some(self.call_hour_question(*level, *places)),
         }
         Some(String::new())
     }
@@ -189,19 +237,26 @@ impl Desk {
         answer_line(outcome.map(|counts| format!("nodes {} events {}", counts.nodes, counts.events))) + &self.after()
     }
 
-    fn call_question(&mut self, level: Level, lower: usize, upper: usize, marks: usize) -> String {
-        let mut lower = vec![LOWER_FILL; lower];
-        let mut upper = vec![UPPER_FILL; upper];
-        let mut marks = vec![MARK_FILL; marks];
-        let work = WorkSlices { lower: &mut lower, upper: &mut upper, marks: &mut marks };
-        let (state, outcome) = question(self.state, self.stores(), level, work);
+    fn call_question(&mut self, level: Level, places: [usize; 3]) -> String {
+        let mut slices = Slices::new(places);
+        let (state, outcome) = question(self.state, self.stores(), level, slices.lent());
         self.state = state;
-        let answer = outcome.map(|answer| {
-            format!("lower {} upper {} events {}", end_text(answer.lower), end_text(answer.upper), answer.events)
-        });
-        let slices =
-            self.slice_line("lower", &lower) + &self.slice_line("upper", &upper) + &self.slice_line("marks", &marks);
-        answer_line(answer) + &self.after() + &slices
+        answer_line(outcome.map(ends_text)) + &self.after() + &self.slice_lines(&slices)
+    }
+
+    fn call_hour_question(&mut self, level: Level, places: [usize; 3]) -> String {
+        let mut slices = Slices::new(places);
+        let mut buffer = vec![STORE_FILL; self.buffer];
+        let plan = Plan { book: &self.book, hour: self.hour };
+        let (state, outcome) = question_at_hour(self.state, self.stores(), level, plan, &mut buffer, slices.lent());
+        self.state = state;
+        let after = match self.form {
+            Form::Whole => {
+                self.after() + &format!("buffer {}\n", self.store_text(&buffer)) + &self.slice_lines(&slices)
+            }
+            Form::Short => self.sums_line(&buffer, &slices),
+        };
+        answer_line(outcome.map(ends_text)) + &after
     }
 
     fn call_count(&self) -> String {
@@ -223,6 +278,18 @@ impl Desk {
         let State { tree_length, sheet_length } = self.state;
         let (tree, sheet) = (self.store_text(&self.tree_store), self.store_text(&self.sheet_store));
         format!("state {tree_length} {sheet_length}\ntree {tree}\nsheet {sheet}\n")
+    }
+
+    fn slice_lines(&self, Slices { lower, upper, marks }: &Slices) -> String {
+        self.slice_line("lower", lower) + &self.slice_line("upper", upper) + &self.slice_line("marks", marks)
+    }
+
+    /// What is held, and what was lent to an hour question.
+    fn sums_line(&self, buffer: &[u8], Slices { lower, upper, marks }: &Slices) -> String {
+        let lengths = [self.state.tree_length as u64, self.state.sheet_length as u64];
+        let held = [&lengths[..], &[checksum(&self.tree_store), checksum(&self.sheet_store)]].concat();
+        let lent = [checksum(buffer), checksum(lower), checksum(upper), checksum(marks)];
+        format!("after {} {}\n", checksum(&held), checksum(&lent))
     }
 
     fn is_short<T>(&self, places: &[T]) -> bool {
@@ -253,6 +320,10 @@ impl Desk {
 /// The places as the digits of a number in base 257, the first one highest.
 fn checksum<T: Copy + Into<u64>>(places: &[T]) -> u64 {
     places.iter().fold(0, |sum, &place| (sum * 257 + place.into()) % PRIME)
+}
+
+fn ends_text(answer: Answer) -> String {
+    format!("lower {} upper {} events {}", end_text(answer.lower), end_text(answer.upper), answer.events)
 }
 
 fn count_text(count: u64) -> String {

@@ -1,16 +1,30 @@
-//! A level printer that is a program of its own, held to `print_levels` on generated cases.
+//! A level printer, or one at an hour, that is a program of its own, held to the same printer here on generated cases.
 
-use crate::cases::{kind_name, write_case, Kind};
+use crate::cases::{is_input, kind_name, write_case, Kind};
+use crate::hours::print_hours;
 use crate::levels::print_levels;
 use std::io::{self, Write};
 use std::process::{Command, Stdio};
 
-/// The first `count` cases of a kind and a seed.
+/// A printer by its word, and its text.
+pub type Printer = (&'static str, fn(&[u8]) -> String);
+
+/// The printer that the cases of a kind are for, or nothing for lists of calls and lone trees.
+pub fn printer_of(kind: Kind) -> Option<Printer> {
+    match kind {
+        Kind::Windows => Some(("hours", print_hours)),
+        _ if is_input(kind) => Some(("levels", print_levels)),
+        _ => None,
+    }
+}
+
+/// The first `count` cases of a kind and a seed, for a printer.
 #[derive(Clone, Copy)]
 pub struct Cases {
     pub seed: u64,
     pub count: u64,
     pub kind: Kind,
+    pub printer: Printer,
 }
 
 /// How many cases had each outcome here, and those where the program did otherwise.
@@ -38,7 +52,7 @@ pub fn compare(cases: Cases, program: &[&str]) -> io::Result<Comparison> {
     let mut comparison = Comparison::default();
     for index in 0..cases.count {
         let case = write_case(cases.kind, cases.seed, index);
-        let expected = print_levels(&case);
+        let expected = (cases.printer.1)(&case);
         match expected.split([' ', '\n']).next() {
             Some("tree") => comparison.answered += 1,
             Some("refused") => comparison.refused += 1,
@@ -52,7 +66,7 @@ pub fn compare(cases: Cases, program: &[&str]) -> io::Result<Comparison> {
     Ok(comparison)
 }
 
-/// A pipe holds the longest case, so the program may write before it has read all, or end before it has.
+/// A pipe holds the longest text, so the program may write before it has read all, or end before it has.
 fn run(program: &[&str], case: &[u8]) -> io::Result<Run> {
     let mut child =
         Command::new(program[0]).args(&program[1..]).stdin(Stdio::piped()).stdout(Stdio::piped()).spawn()?;
@@ -71,7 +85,7 @@ const SHOWN: usize = 5;
 
 /// The counts, or the first differences, each with the commands that run its case alone.
 pub fn report(cases: Cases, program: &[&str], own_name: &str, comparison: &Comparison) -> String {
-    let Cases { seed, count, kind } = cases;
+    let Cases { seed, count, kind, printer: (word, _) } = cases;
     let kind = kind_name(kind);
     let Comparison { answered, refused, input, differences } = comparison;
     let mut text = format!("seed {seed}, kind {kind}, {count} cases: ");
@@ -83,7 +97,7 @@ pub fn report(cases: Cases, program: &[&str], own_name: &str, comparison: &Compa
     for Difference { index, expected, run } in differences.iter().take(SHOWN) {
         text.push_str(&format!("difference: seed {seed}, kind {kind}, case {index}\n"));
         text.push_str(&first_difference(expected, run));
-        for printer in [program.join(" "), format!("{own_name} levels")] {
+        for printer in [program.join(" "), format!("{own_name} {word}")] {
             text.push_str(&format!("  alone: {own_name} case {seed} {index} {kind} | {printer}\n"));
         }
     }

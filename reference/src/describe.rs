@@ -2,6 +2,7 @@
 
 use crate::opinion_sheet::{FOUR_NUMBERS, FRACTIONS, MOST_EXPERTS, OPINIONS};
 use crate::tree_file::{AND, EVENT, OR};
+use crate::work_windows::Window;
 
 /// A node with the nodes that it links, in link order.
 #[derive(Clone, PartialEq, Eq, Debug)]
@@ -112,4 +113,12 @@ fn sixteen(bytes: &[u8]) -> [u8; MOST_EXPERTS] {
     let mut filled = [0; MOST_EXPERTS];
     filled[..bytes.len()].copy_from_slice(bytes);
     filled
+}
+
+pub fn book_bytes(windows: &[Window]) -> Vec<u8> {
+    windows.iter().flat_map(window_bytes).collect()
+}
+
+fn window_bytes(window: &Window) -> Vec<u8> {
+    [&window.event.to_le_bytes()[..], &window.first.to_le_bytes(), &window.end.to_le_bytes()].concat()
 }

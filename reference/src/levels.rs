@@ -8,19 +8,19 @@ use crate::monitor::{hand_in_sheet, hand_in_tree, question, Answer, State, Store
 use crate::opinion_sheet;
 use crate::refusal::Refusal;
 use crate::tree_file;
+use std::array::from_fn;
 
 /// 16-bit n, tree length and sheet length.
 pub const INPUT_HEADER: usize = 6;
 const TREE_STORE: usize = 7_175;
-const SHEET_STORE: usize = 17_434;
+pub const SHEET_STORE: usize = 17_434;
+/// The text for bytes that are no header with parts of its lengths.
+pub const INPUT_LINE: &str = "input\n";
 
 pub fn print_levels(input: &[u8]) -> String {
-    match split_input(input) {
-        None => "input\n".to_string(),
-        Some((n, tree, sheet)) => match answer_all(n, tree, sheet) {
-            Ok(text) => text,
-            Err(refusal) => refusal_line(refusal),
-        },
+    match split_input(input, INPUT_HEADER) {
+        None => INPUT_LINE.to_string(),
+        Some((n, [tree, sheet])) => answer_all(n, tree, sheet, question).unwrap_or_else(refusal_line),
     }
 }
 
@@ -33,23 +33,34 @@ pub fn end_text(end: End) -> String {
     format!("{} {}", end.units, if end.exact { '=' } else { '~' })
 }
 
-/// n, the tree and the sheet, or nothing where the printer says `input`.
-fn split_input(input: &[u8]) -> Option<(u16, &[u8], &[u8])> {
-    if input.len() < INPUT_HEADER {
+/// n and the parts behind the header, or nothing where the printer says `input`. The header begins with n and the
+/// lengths of the parts, the tree's and the sheet's first.
+pub fn split_input<const PARTS: usize>(input: &[u8], header: usize) -> Option<(u16, [&[u8]; PARTS])> {
+    if input.len() < header {
         return None;
     }
-    let tree_length = read_16(input, 2) as usize;
-    let sheet_length = read_16(input, 4) as usize;
-    let fits = tree_length <= TREE_STORE && sheet_length <= SHEET_STORE;
-    if !fits || input.len() != INPUT_HEADER + tree_length + sheet_length {
+    let lengths: [usize; PARTS] = from_fn(|part| read_16(input, 2 + 2 * part) as usize);
+    let fits = lengths[0] <= TREE_STORE && lengths[1] <= SHEET_STORE;
+    if !fits || input.len() != header + lengths.iter().sum::<usize>() {
         return None;
     }
-    let (tree, sheet) = input[INPUT_HEADER..].split_at(tree_length);
-    Some((read_16(input, 0), tree, sheet))
+    let mut rest = &input[header..];
+    let parts = lengths.map(|length| {
+        let (part, behind) = rest.split_at(length);
+        rest = behind;
+        part
+    });
+    Some((read_16(input, 0), parts))
 }
 
-/// Refusals 20 and 25 can't occur here: the stores take any file that is let in, the slices any tree.
-fn answer_all(n: u16, tree: &[u8], sheet: &[u8]) -> Result<String, Refusal> {
+/// The text of all levels, each asked by `ask`. Refusals 20 and 25 can't occur here: the stores take any file that is
+/// let in, the slices any tree.
+pub fn answer_all(
+    n: u16,
+    tree: &[u8],
+    sheet: &[u8],
+    mut ask: impl FnMut(State, Stores, Level, WorkSlices) -> (State, Result<Answer, Refusal>),
+) -> Result<String, Refusal> {
     let mut tree_store = [0; TREE_STORE];
     let mut sheet_store = [0; SHEET_STORE];
     let (state, accepted) = hand_in_tree(State::default(), &mut tree_store, tree);
@@ -64,7 +75,7 @@ fn answer_all(n: u16, tree: &[u8], sheet: &[u8]) -> Result<String, Refusal> {
     let mut text = String::new();
     for k in (0..=n as u32).rev() {
         let work = WorkSlices { lower: &mut lower, upper: &mut upper, marks: &mut marks };
-        let (_, answer) = question(state, stores, Level { k, n: n as u32 }, work);
+        let (_, answer) = ask(state, stores, Level { k, n: n as u32 }, work);
         let answer = answer?;
         if text.is_empty() {
             text = header_line(tree, answer.events, n);

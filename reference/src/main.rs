@@ -5,34 +5,41 @@ use reference::cases::fractions::FRACTION_CASES;
 use reference::cases::large_damage::LARGE_DAMAGES;
 use reference::cases::limits::LIMITS;
 use reference::cases::vector_list::vector_list;
-use reference::cases::{file_name, is_input, parse_kind, write_case, Kind};
-use reference::compare::{compare, report, Cases};
+use reference::cases::windows::WINDOW_CASES;
+use reference::cases::{file_name, parse_kind, write_case, Kind};
+use reference::compare::{compare, printer_of, report, Cases};
 use reference::examples::example;
 use reference::framing::{frame, split_frames};
+use reference::hours::{hour_input, print_hours};
 use reference::levels::{print_levels, printer_input};
 use reference::set_lines::print_sets;
 use reference::vectors::{stream_text, write_stream};
+use reference::work_windows::Plan;
 use std::io::{self, Read, Write};
 use std::path::Path;
 use std::process::ExitCode;
 
 const USAGE: &str = "\
 reference levels < input                       the level printer
+reference hours < input                        the level printer at an hour, with a book of work windows
 reference cut-sets < tree                      the minimal cut sets of a tree file, as lines in no promised order
 reference calls < list                         a list of calls (src/calls.rs says the format)
-reference each levels|cut-sets|calls < stream  the same for each framed case; the answers are framed alike
+reference each levels|hours|cut-sets|calls < stream
+    the same for each framed case; the answers are framed alike
 reference vectors stream                       the stored list of calls as bytes (src/vectors.rs says the format)
 reference vectors text < stream                what crates/vectors must print for such bytes
 reference cases SEED COUNT KIND DIR|-          cases as files in DIR, or framed to standard output
-    KIND: valid limits damaged changed mixed calls sets trees large fractions
+    KIND: valid limits damaged changed mixed calls sets trees large fractions windows
 reference case SEED INDEX KIND                 one of these cases to standard output
 reference limits                               how many limits there are: so many cases of that kind have all
 reference large                                the same of the faults in large files
 reference fractions                            the same of the limits and faults of fraction entries
+reference windows                              the same of the limits and faults of a book
 reference compare SEED COUNT KIND PROGRAM [WORD...]
-    such cases given to a level printer, one run each; status 1 where it prints anything else than `levels` here
-reference example NAME tree|sheet              a file of an example
-reference example NAME input N                 the printer's input for an example with N levels
+    such cases given to a level printer, one run each; status 1 where it prints anything else than `levels` here, or,
+    of windows, than `hours`
+reference example NAME tree|sheet|book         a file of an example
+reference example NAME input N [HOUR]          the printer's input for an example with N levels, alone or at an hour
     NAME: road_trip container_seal fuel_supply cooling_pumps
 ";
 
@@ -71,6 +78,7 @@ fn main() -> ExitCode {
 fn run(words: &[&str]) -> Result<(), Failure> {
     match *words {
         ["levels"] => Ok(write_out(print_levels(&read_in()?).as_bytes())?),
+        ["hours"] => Ok(write_out(print_hours(&read_in()?).as_bytes())?),
         ["cut-sets"] => Ok(write_out(print_sets(&read_in()?).as_bytes())?),
         ["calls"] => {
             let (text, understood) = answer_list(&read_in()?);
@@ -82,6 +90,7 @@ fn run(words: &[&str]) -> Result<(), Failure> {
             }
         }
         ["each", "levels"] => answer_each(print_levels),
+        ["each", "hours"] => answer_each(print_hours),
         ["each", "cut-sets"] => answer_each(print_sets),
         ["each", "calls"] => answer_each(|case| answer_list(case).0),
         ["vectors", "stream"] => Ok(write_out(&write_stream(&vector_list()))?),
@@ -94,15 +103,26 @@ fn run(words: &[&str]) -> Result<(), Failure> {
         ["limits"] => Ok(write_out(format!("{}\n", LIMITS.len()).as_bytes())?),
         ["large"] => Ok(write_out(format!("{LARGE_DAMAGES}\n").as_bytes())?),
         ["fractions"] => Ok(write_out(format!("{FRACTION_CASES}\n").as_bytes())?),
+        ["windows"] => Ok(write_out(format!("{WINDOW_CASES}\n").as_bytes())?),
         ["compare", seed, count, kind, ref program @ ..] if !program.is_empty() => {
-            compare_cases(Cases { seed: number(seed)?, count: number(count)?, kind: any_kind(kind)? }, program)
+            let kind = any_kind(kind)?;
+            let printer = printer_of(kind).ok_or(Failure::Usage)?;
+            compare_cases(Cases { seed: number(seed)?, count: number(count)?, kind, printer }, program)
         }
         ["example", name, "tree"] => Ok(write_out(&example(name).ok_or(Failure::Usage)?.tree())?),
         ["example", name, "sheet"] => Ok(write_out(&example(name).ok_or(Failure::Usage)?.sheet())?),
+        ["example", name, "book"] => Ok(write_out(&example(name).ok_or(Failure::Usage)?.book())?),
         ["example", name, "input", n] => {
             let example = example(name).ok_or(Failure::Usage)?;
             let n = n.parse().map_err(|_| Failure::Usage)?;
             Ok(write_out(&printer_input(n, &example.tree(), &example.sheet()))?)
+        }
+        ["example", name, "input", n, hour] => {
+            let example = example(name).ok_or(Failure::Usage)?;
+            let [n, hour] = [number(n)?, number(hour)?];
+            let n = n.try_into().map_err(|_| Failure::Usage)?;
+            let plan = Plan { book: &example.book(), hour: hour.try_into().map_err(|_| Failure::Usage)? };
+            Ok(write_out(&hour_input(n, &example.tree(), &example.sheet(), plan))?)
         }
         _ => Err(Failure::Usage),
     }
@@ -116,9 +136,9 @@ fn any_kind(word: &str) -> Result<Kind, Failure> {
     parse_kind(word).ok_or(Failure::Usage)
 }
 
-/// Lists of calls and lone trees are no input of a level printer, and no case shows no difference.
+/// No case shows no difference.
 fn compare_cases(cases: Cases, program: &[&str]) -> Result<(), Failure> {
-    if !is_input(cases.kind) || cases.count == 0 {
+    if cases.count == 0 {
         return Err(Failure::Usage);
     }
     let outcome = compare(cases, program)?;

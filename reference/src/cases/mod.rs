@@ -1,4 +1,4 @@
-//! Generated cases: inputs of the level printer, lists of calls, and tree files.
+//! Generated cases: inputs of the level printer, alone and at an hour, lists of calls, and tree files.
 
 pub mod case;
 pub mod spot;
@@ -17,10 +17,13 @@ pub mod fraction_entries;
 pub mod fraction_damage;
 pub mod fraction_limits;
 pub mod fractions;
+pub mod books;
+pub mod windows;
 pub mod call_lists;
 pub mod vector_list;
 pub mod fraction_vectors;
 pub mod step_vectors;
+pub mod window_vectors;
 
 use crate::random::Random;
 
@@ -46,9 +49,11 @@ pub enum Kind {
     Large,
     /// Sheets with fraction entries: limits, faults, answered inputs and blind changes in turn.
     Fractions,
+    /// Inputs of the level printer at an hour: limits of a book, faults, answered inputs and blind changes in turn.
+    Windows,
 }
 
-pub const KINDS: [(&str, Kind); 10] = [
+pub const KINDS: [(&str, Kind); 11] = [
     ("valid", Kind::Valid),
     ("limits", Kind::Limits),
     ("damaged", Kind::Damaged),
@@ -59,6 +64,7 @@ pub const KINDS: [(&str, Kind); 10] = [
     ("trees", Kind::Trees),
     ("large", Kind::Large),
     ("fractions", Kind::Fractions),
+    ("windows", Kind::Windows),
 ];
 
 pub fn parse_kind(word: &str) -> Option<Kind> {
@@ -83,6 +89,7 @@ pub fn write_case(kind: Kind, seed: u64, index: u64) -> Vec<u8> {
         Kind::Mixed => mixed_case(random, index),
         Kind::Large => large_damage::large_case(random, index).bytes,
         Kind::Fractions => fractions::fraction_case(random, index),
+        Kind::Windows => windows::window_case(random, index),
     }
 }
 
@@ -99,7 +106,7 @@ fn mixed_case(random: &mut Random, index: u64) -> Vec<u8> {
 
 /// Whether the cases are inputs of the level printer.
 pub fn is_input(kind: Kind) -> bool {
-    !matches!(kind, Kind::Calls | Kind::Sets | Kind::Trees)
+    !matches!(kind, Kind::Calls | Kind::Sets | Kind::Trees | Kind::Windows)
 }
 
 pub fn file_name(kind: Kind, index: u64) -> String {

@@ -1,6 +1,6 @@
 //! The stored list of calls that crates/vectors runs: document 01's table, each limit and one past it, each refusal
 //! with what is left after it, changed stores and states, many questions on one pair, and generated lists; then the
-//! same for minimal cut sets, and for fraction entries.
+//! same for minimal cut sets, for fraction entries, and for questions at an hour.
 
 use super::call_lists::{call_list, set_list};
 use super::changed::changed_input;
@@ -49,6 +49,7 @@ pub fn vector_list() -> Vec<Call> {
     list.generated_sets();
     list.fraction_entries();
     list.step_limits();
+    list.work_windows();
     list.calls
 }
 
@@ -66,7 +67,7 @@ fn road_trip() -> Pair {
 }
 
 impl List {
-    fn held(&mut self, tree_length: usize, sheet_length: usize) {
+    pub(super) fn held(&mut self, tree_length: usize, sheet_length: usize) {
         self.calls.push(Call::Held(State { tree_length, sheet_length }));
     }
 

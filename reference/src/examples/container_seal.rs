@@ -23,6 +23,7 @@ pub fn container_seal() -> Example {
         scores: vec![],
         // 0.1, 1e-5 and four times 1e-3 in units (004, section 7).
         entries: [100_000_000, 10_000, 1_000_000, 1_000_000, 1_000_000, 1_000_000].map(triangle).to_vec(),
+        windows: vec![],
     }
 }
 

@@ -3,6 +3,7 @@
 
 use super::Example;
 use crate::describe::{fractions, Entry, Node};
+use crate::work_windows::Window;
 
 const SILENT: u8 = 0;
 const VERY_LOW: u8 = 1;
@@ -32,6 +33,11 @@ pub fn cooling_pumps() -> Example {
             Entry::Opinions(vec![LOW, FAIRLY_LOW, SILENT]),
             fractions(3_650, [1, 2, 2, 4]),
             Entry::Four([50_000, 100_000, 100_000, 300_000]),
+        ],
+        windows: vec![
+            Window { event: 0, first: 43_832, end: 43_844 }, // the main pump is overhauled
+            Window { event: 2, first: 43_840, end: 43_848 }, // the changeover valve gets new seals
+            Window { event: 1, first: 43_880, end: 43_886 }, // the standby pump gets new bearings
         ],
     }
 }

@@ -40,5 +40,6 @@ pub fn fuel_supply() -> Example {
         ]
         .map(|terms| Entry::Opinions(terms.to_vec()))
         .to_vec(),
+        windows: vec![],
     }
 }

@@ -1,17 +1,20 @@
-//! Four systems to run, each as a tree file and an opinion sheet.
+//! Four systems to run, each as a tree file and an opinion sheet, one with a book of work windows.
 
 pub mod road_trip;
 pub mod container_seal;
 pub mod fuel_supply;
 pub mod cooling_pumps;
 
-use crate::describe::{sheet_bytes, tree_bytes, Entry, Node};
+use crate::describe::{book_bytes, sheet_bytes, tree_bytes, Entry, Node};
+use crate::work_windows::Window;
 
 pub struct Example {
     pub number: u16,
     pub nodes: Vec<Node>,
     pub scores: Vec<u8>,
     pub entries: Vec<Entry>,
+    /// Where there are any, the example has a book.
+    pub windows: Vec<Window>,
 }
 
 impl Example {
@@ -21,6 +24,10 @@ impl Example {
 
     pub fn sheet(&self) -> Vec<u8> {
         sheet_bytes(self.number, &self.scores, &self.entries)
+    }
+
+    pub fn book(&self) -> Vec<u8> {
+        book_bytes(&self.windows)
     }
 }
 

@@ -17,5 +17,6 @@ pub fn road_trip() -> Example {
         scores: vec![],
         // Example 4: p(a) = 0.8, p(b) = 0.1, p(c) = 0.4. The figure is lost: which of b and c is which is assumed.
         entries: vec![same(800_000_000), same(100_000_000), same(400_000_000)],
+        windows: vec![],
     }
 }

@@ -29,6 +29,28 @@ fn every_kind_of_line() {
     assert_eq!(run_calls(&list), (expected, true));
 }
 
+#[test]
+fn questions_at_an_hour() {
+    let tree = hex_text(&tree_bytes(7, &[Node::Event]));
+    let sheet = hex_text(&sheet_bytes(7, &[], &[Entry::Four([0, 1, 1, 2])]));
+    let list = format!(
+        "stores 14 43\ntree {tree}\nsheet {sheet}\nhour-question 1 2 1 1 1\nhour 5 44\nhour-question 1 2 1 1 1\n\
+         book 00000500000006000000\nhour-question 1 2 1 2 1\nbook 0000050000000600\nhour-question 1 2 1 1 0\n"
+    );
+    let after = format!("state 14 43\ntree {tree}\nsheet {sheet}\n");
+    let written = format!("{}00{}", &sheet[..52], "00ca9a3b".repeat(4));
+    let expected = format!(
+        "accepted\nstate 14 0\ntree {tree}\nsheet {fill}\naccepted\n{after}\
+         refused 30 at 0\n{after}buffer -\nlower 4000000001\nupper 4000000002\nmarks 238\n\
+         lower 0 ~ upper 2 ~ events 1\n{after}buffer {sheet}ee\nlower 0\nupper 2\nmarks 0\n\
+         lower 1000000000 = upper 1000000000 = events 1\n{after}buffer {written}ee\n\
+         lower 1000000000\nupper 1000000000 4000000002\nmarks 3\n\
+         refused 29 at 8\n{after}buffer {fill}ee\nlower 4000000001\nupper 4000000002\nmarks\n",
+        fill = "ee".repeat(43)
+    );
+    assert_eq!(run_calls(&list), (expected, true));
+}
+
 /// By hand: all bits from 2 on with bit 0 or bit 1 are 2^64 - 3 and 2^64 - 2. Modulo 4294967291, where 2^32 is 5, these
 /// are 22 and 23.
 #[test]
@@ -86,6 +108,13 @@ fn lines_that_are_none() {
         "cut-sets",
         "cut-sets 65537",
         "cut sets 1",
+        "book",
+        "book 0",
+        "hour 1",
+        "hour 4294967296 0",
+        "hour 0 65537",
+        "hour-question 1 2 3 4",
+        "hour-question 1 2 3 4 65537",
     ];
     for line in lines {
         let list = format!("stores 0 0\n{line}\ndrop\n");

@@ -1,10 +1,12 @@
 //! Comparison with a program: the same printer has no difference, and a wrong one is found and told.
 
-use reference::cases::Kind;
-use reference::compare::{compare, report, Cases};
+use reference::cases::{Kind, KINDS};
+use reference::compare::{compare, printer_of, report, Cases};
+use reference::hours::print_hours;
+use reference::levels::print_levels;
 
 const OWN: &str = env!("CARGO_BIN_EXE_reference");
-const CASES: Cases = Cases { seed: 3, count: 120, kind: Kind::Mixed };
+const CASES: Cases = Cases { seed: 3, count: 120, kind: Kind::Mixed, printer: ("levels", print_levels) };
 
 /// The printer with its text changed by a command of sed.
 fn altered(edit: &str) -> Vec<String> {
@@ -59,4 +61,25 @@ fn a_failing_program() {
     let (differing, text) = compared(&["sh", "-c", &format!("'{OWN}' levels; exit 3")]);
     assert_eq!(differing.len(), 120);
     assert!(text.contains("\n  the program did not end with status 0\n  alone: "), "{text}");
+}
+
+/// The inputs at an hour go to the printer at an hour, and lists and trees to none.
+#[test]
+fn each_kind_has_its_printer() {
+    for (name, kind) in KINDS {
+        let word = printer_of(kind).map(|(word, _)| word);
+        let wanted = match name {
+            "windows" => Some("hours"),
+            "calls" | "sets" | "trees" => None,
+            _ => Some("levels"),
+        };
+        assert_eq!(word, wanted, "{name}");
+    }
+    let cases = Cases { seed: 3, count: 64, kind: Kind::Windows, printer: ("hours", print_hours) };
+    assert!(compare(cases, &[OWN, "hours"]).unwrap().differences.is_empty());
+    let differences =
+        compare(cases, &["sh", "-c", &format!("'{OWN}' hours | sed 's/^refused 29/refused 30/'")]).unwrap();
+    let text = report(cases, &["other"], "reference", &differences);
+    let first = differences.differences[0].index;
+    assert!(text.contains(&format!("\n  alone: reference case 3 {first} windows | reference hours\n")), "{text}");
 }

@@ -7,8 +7,11 @@ use reference::end::End;
 use reference::evaluation::WorkSlices;
 use reference::monitor::{drop_both, hand_in_sheet, hand_in_tree, judge, question, Answer, Counts, State, Stores};
 use reference::refusal::{refused, Refusal};
+use reference::work_windows::{question_at_hour, Plan};
 
 pub const FILL: u8 = 0xa5;
+/// Another than that of the stores, so that a byte copied from behind the held sheet is seen.
+pub const BUFFER_FILL: u8 = 0x5a;
 
 #[derive(Clone, PartialEq, Eq, Debug)]
 pub struct Desk {
@@ -91,6 +94,33 @@ impl Desk {
             assert_eq!(*work, before);
         }
         outcome
+    }
+
+    /// A refusal leaves the buffer and the slices as they were, and any answer the buffer behind the sheet.
+    pub fn question_at_hour(
+        &self,
+        k: u32,
+        n: u32,
+        plan: Plan,
+        buffer: &mut [u8],
+        work: &mut Work,
+    ) -> Result<Answer, Refusal> {
+        let before = (buffer.to_vec(), work.clone());
+        let Work { lower, upper, marks } = work;
+        let slices = WorkSlices { lower, upper, marks };
+        let (state, outcome) = question_at_hour(self.state, self.stores(), Level { k, n }, plan, buffer, slices);
+        assert_eq!(state, self.state);
+        if outcome.is_err() {
+            assert_eq!((buffer.to_vec(), work.clone()), before);
+        } else {
+            assert_eq!(buffer[self.state.sheet_length..], before.0[self.state.sheet_length..]);
+        }
+        outcome
+    }
+
+    /// One with a buffer for the longest sheet and slices of 1,024 places.
+    pub fn answer_at_hour(&self, k: u32, n: u32, plan: Plan) -> Result<Answer, Refusal> {
+        self.question_at_hour(k, n, plan, &mut [BUFFER_FILL; 17_434], &mut fresh_work(1_024, 1_024, 1_024))
     }
 
     pub fn count_sets(&self) -> Result<u64, Refusal> {

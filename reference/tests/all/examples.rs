@@ -5,7 +5,9 @@ use reference::cases::trees::count_events;
 use reference::describe::Node;
 use reference::end::End;
 use reference::examples::{example, Example, NAMES};
+use reference::hours::{hour_input, print_hours};
 use reference::levels::{print_levels, printer_input};
+use reference::work_windows::{Plan, Window};
 use std::fs;
 use std::path::PathBuf;
 
@@ -17,16 +19,24 @@ fn levels_text(example: &Example, n: u16) -> String {
     print_levels(&printer_input(n, &example.tree(), &example.sheet()))
 }
 
+fn hour_text(example: &Example, n: u16, hour: u32) -> String {
+    let book = example.book();
+    print_hours(&hour_input(n, &example.tree(), &example.sheet(), Plan { book: &book, hour }))
+}
+
 #[test]
 fn files_are_the_examples() {
     for name in NAMES {
         let example = example(name).unwrap();
         assert_eq!(fs::read(folder(name).join("tree.ftf")).unwrap(), example.tree(), "{name}");
         assert_eq!(fs::read(folder(name).join("sheet.fts")).unwrap(), example.sheet(), "{name}");
+        let book = Some(example.book()).filter(|book| !book.is_empty());
+        assert_eq!(fs::read(folder(name).join("windows.ftw")).ok(), book, "{name}");
     }
 }
 
-/// Each file levels-N.txt of an example is what is printed for N levels, and each example has one.
+/// Each file levels-N.txt of an example is what is printed for N levels, and each example has one; levels-N-at-H.txt is
+/// what is printed at hour H with its book.
 #[test]
 fn expected_levels_are_printed() {
     for name in NAMES {
@@ -35,7 +45,11 @@ fn expected_levels_are_printed() {
             let path = file.unwrap().path();
             let stem = path.file_name().unwrap().to_str().unwrap().to_string();
             let Some(n) = stem.strip_prefix("levels-").and_then(|rest| rest.strip_suffix(".txt")) else { continue };
-            let text = levels_text(&example(name).unwrap(), n.parse().unwrap());
+            let example = example(name).unwrap();
+            let text = match n.split_once("-at-") {
+                Some((n, hour)) => hour_text(&example, n.parse().unwrap(), hour.parse().unwrap()),
+                None => levels_text(&example, n.parse().unwrap()),
+            };
             assert_eq!(fs::read_to_string(&path).unwrap(), text, "{}", path.display());
             found += 1;
         }
@@ -122,4 +136,43 @@ fn cooling_pumps_has_makers_figures_beside_opinions() {
     assert_eq!(valve, [1_369_863, 6_849_316, 2_739_726, 2_739_727].map(unmarked));
     assert_eq!(event_ends(&example, 0)[1], exact(155_000_000));
     assert_eq!(event_ends(&example, 5)[0], exact(50_000));
+}
+
+/// A row of the table of windows in an ORIGIN text.
+fn window_row(window: &Window) -> String {
+    let Window { event, first, end } = window;
+    format!("| {event} | {} | {} | ", with_commas(*first), with_commas(*end))
+}
+
+fn with_commas(hour: u32) -> String {
+    format!("{},{:03}", hour / 1_000, hour % 1_000)
+}
+
+#[test]
+fn origins_tell_the_windows() {
+    for name in NAMES {
+        let text = fs::read_to_string(folder(name).join("ORIGIN.md")).unwrap();
+        let rows: Vec<&str> = text.lines().skip_while(|line| !line.starts_with("| event | first")).skip(2).collect();
+        let windows = example(name).unwrap().windows;
+        for (window, row) in windows.iter().zip(&rows) {
+            assert!(row.starts_with(&window_row(window)), "{name}: {row}");
+        }
+        assert!(rows.is_empty() == windows.is_empty() && rows.get(windows.len()).is_none_or(|row| row.is_empty()));
+    }
+}
+
+/// Before and after each edge of the plan: the main pump, both, the valve, none; then the standby pump.
+#[test]
+fn cooling_pumps_has_an_overlap() {
+    let example = example("cooling_pumps").unwrap();
+    let plain = levels_text(&example, 2);
+    let text = |hour| hour_text(&example, 2, hour);
+    let stretches = [[43_832, 43_839], [43_840, 43_843], [43_844, 43_847], [43_880, 43_885]];
+    for [first, last] in stretches {
+        assert_eq!(text(first), text(last));
+        assert!(text(first) != plain && text(first - 1) != text(first) && text(last + 1) != text(last), "{first}");
+    }
+    for hour in [0, 43_831, 43_848, 43_879, 43_886, u32::MAX] {
+        assert_eq!(text(hour), plain);
+    }
 }
