@@ -21,21 +21,28 @@ pub struct Asked {
     pub book: usize,
 }
 
+// Reads a file of that length; whether all of it came.
+fn read_part(length: usize, file: &mut [u8]) -> bool {
+    let room = front(length, file);
+    let got = io::read_full(STDIN_FILENO, &mut file[..room]);
+    got == length
+}
+
 // Reads the files, and prints the levels. A book as long as the array is longer than a 16-bit length can say.
 fn print_files(asked: Asked) -> bool {
     let mut tree = [0u8; MOST_TREE];
     let mut sheet = [0u8; MOST_SHEET];
     let mut book = [0u8; 65536];
-    let trees = front(asked.tree, &tree);
-    let sheets = front(asked.sheet, &sheet);
-    let tree_len = io::read_full(STDIN_FILENO, &mut tree[..trees]);
-    let sheet_len = io::read_full(STDIN_FILENO, &mut sheet[..sheets]);
+    let tree_came = read_part(asked.tree, &mut tree);
+    let sheet_came = read_part(asked.sheet, &mut sheet);
     let book_len = io::read_full(STDIN_FILENO, &mut book);
-    if (tree_len == asked.tree) & (sheet_len == asked.sheet) & (book_len == asked.book) {
+    if tree_came & sheet_came & (book_len == asked.book) {
+        let tree_len = front(asked.tree, &tree);
+        let sheet_len = front(asked.sheet, &sheet);
         return print_pair(
             asked,
-            &tree[..trees],
-            &sheet[..sheets],
+            &tree[..tree_len],
+            &sheet[..sheet_len],
             &book[..book_len],
         );
     }

@@ -20,13 +20,18 @@ pub enum Call {
     Count,
     // The places of the lent slice.
     CutSets(usize),
+    AtHour(AtHour),
+    // The list is at its end, or what follows is no call.
+    End,
+}
+
+// A question at an hour, or a setting of what is lent for it.
+pub enum AtHour {
     // The length of the book that follows.
     Book(usize),
     // The hour, and the length of the buffer for its sheet.
     Hour(u32, usize),
-    HourQuestion(Question),
-    // The list is at its end, or what follows is no call.
-    End,
+    Question(Question),
 }
 
 // Level k of n, and the lengths of the three work slices.
@@ -49,6 +54,16 @@ fn question_of(k: u32, n: u32, lower: u32, upper: u32, marks: u32) -> Question {
     }
 }
 
+// The call at an hour that a byte and its numbers spell.
+fn hour_call_of(which: u8, one: u32, two: u32, three: u32, four: u32, five: u32) -> Call {
+    match which {
+        12 => Call::AtHour(AtHour::Book(one as usize)),
+        13 => Call::AtHour(AtHour::Hour(one, two as usize)),
+        14 => Call::AtHour(AtHour::Question(question_of(one, two, three, four, five))),
+        _ => Call::End,
+    }
+}
+
 // The call that a byte and its numbers spell.
 fn call_of(which: u8, one: u32, two: u32, three: u32, four: u32, five: u32) -> Call {
     match which {
@@ -63,10 +78,7 @@ fn call_of(which: u8, one: u32, two: u32, three: u32, four: u32, five: u32) -> C
         9 => Call::Question(question_of(one, two, three, four, five)),
         10 => Call::Count,
         11 => Call::CutSets(one as usize),
-        12 => Call::Book(one as usize),
-        13 => Call::Hour(one, two as usize),
-        14 => Call::HourQuestion(question_of(one, two, three, four, five)),
-        _ => Call::End,
+        _ => hour_call_of(which, one, two, three, four, five),
     }
 }
 

@@ -11,20 +11,16 @@ use crate::print::print_decimal;
 use crate::print::print_line_end;
 use crate::print::print_space;
 use crate::print::print_text;
+use monitor::question::Reply;
 use monitor::state::State;
 use work_windows::question::question_at_hour;
 
-// A checksum of the state and both stores.
-fn held_sum(state: State, tree: &[u8], sheet: &[u8]) -> u64 {
-    row_sum(
-        state.tree_len as u64,
-        state.sheet_len as u64,
-        bytes_sum(tree),
-        bytes_sum(sheet),
-    )
+// What a question leaves: its reply, and a checksum of the buffer and the work slices.
+pub struct Left {
+    pub reply: Reply,
+    pub sum: u64,
 }
 
-// One of the buffer and the work slices.
 fn lent_sum(buffer: &[u8], lower: &[u32], upper: &[u32], marks: &[u8]) -> u64 {
     row_sum(
         bytes_sum(buffer),
@@ -34,15 +30,7 @@ fn lent_sum(buffer: &[u8], lower: &[u32], upper: &[u32], marks: &[u8]) -> u64 {
     )
 }
 
-fn print_sums(held: u64, lent: u64) {
-    print_text(b"after ");
-    print_decimal(held);
-    print_space();
-    print_decimal(lent);
-    print_line_end();
-}
-
-// Questions level k of n at an hour with this buffer and these work slices; the state after it.
+// Questions level k of n at an hour with this buffer and these work slices.
 fn question_with(
     state: State,
     tree: &[u8],
@@ -55,17 +43,22 @@ fn question_with(
     lower: &mut [u32],
     upper: &mut [u32],
     marks: &mut [u8],
-) -> State {
+) -> Left {
     let reply = question_at_hour(
-        state, tree, sheet, book, k, n, hour, buffer, lower, upper, marks,
+        state,
+        tree,
+        sheet,
+        book,
+        k,
+        n,
+        hour,
+        buffer,
+        lower,
+        upper,
+        marks,
     );
-    let outcome = reply.outcome;
-    print_outcome(outcome);
-    print_sums(
-        held_sum(reply.state, tree, sheet),
-        lent_sum(buffer, lower, upper, marks),
-    );
-    reply.state
+    let sum = lent_sum(buffer, lower, upper, marks);
+    Left { reply, sum }
 }
 
 // Questions a level with the front of the buffer and of the work slices.
@@ -79,7 +72,7 @@ fn question_within(
     lower: &mut [u32],
     upper: &mut [u32],
     marks: &mut [u8],
-) -> State {
+) -> Left {
     let room = front(desk.buffer, buffer);
     let lowers = units_front(question.lower, lower);
     let uppers = units_front(question.upper, upper);
@@ -101,13 +94,7 @@ fn question_within(
 
 // Questions a level at the desk's hour with a fresh buffer and fresh work slices, filled so that what a question leaves
 // alone is seen.
-pub fn call_hour_question(
-    desk: Desk,
-    question: Question,
-    tree: &[u8],
-    sheet: &[u8],
-    book: &[u8],
-) -> State {
+fn question_fresh(desk: Desk, question: Question, tree: &[u8], sheet: &[u8], book: &[u8]) -> Left {
     let mut buffer = [238u8; 17500];
     let mut lower = [4000000001u32; 1100];
     let mut upper = [4000000002u32; 1100];
@@ -123,4 +110,35 @@ pub fn call_hour_question(
         &mut upper,
         &mut marks,
     )
+}
+
+// Prints a checksum of the state and both stores, and that of what was lent.
+fn print_sums(state: State, tree: &[u8], sheet: &[u8], lent: u64) {
+    let held = row_sum(
+        state.tree_len as u64,
+        state.sheet_len as u64,
+        bytes_sum(tree),
+        bytes_sum(sheet),
+    );
+    print_text(b"after ");
+    print_decimal(held);
+    print_space();
+    print_decimal(lent);
+    print_line_end();
+}
+
+// Questions a level at the desk's hour; the state after it.
+pub fn call_hour_question(
+    desk: Desk,
+    question: Question,
+    tree: &[u8],
+    sheet: &[u8],
+    book: &[u8],
+) -> State {
+    let left = question_fresh(desk, question, tree, sheet, book);
+    let reply = left.reply;
+    let outcome = reply.outcome;
+    print_outcome(outcome);
+    print_sums(reply.state, tree, sheet, left.sum);
+    reply.state
 }

@@ -1,6 +1,7 @@
 // The list of calls, one after the other.
 use crate::ask::call_judge;
 use crate::ask::call_question;
+use crate::call::AtHour;
 use crate::call::Call;
 use crate::call::Question;
 use crate::call::read_call;
@@ -94,25 +95,32 @@ fn at_hour(desk: Desk, question: Question, tree: &[u8], sheet: &[u8], book: &[u8
     with_stores(desk, state, tree_store, sheet_store)
 }
 
-// The desk after a setting of the hour or a question at it; any other call is one on the stores.
-fn hour_after(desk: Desk, call: Call, tree: &mut [u8], sheet: &mut [u8], book: &mut [u8]) -> Desk {
-    match call {
-        Call::Book(length) => {
+// The desk after a setting of what is lent at an hour, or a question at it.
+fn hour_after(desk: Desk, asked: AtHour, tree: &[u8], sheet: &[u8], book: &mut [u8]) -> Desk {
+    match asked {
+        AtHour::Book(length) => {
             let got = read_file(length, book);
             with_hour(desk, got, desk.hour, desk.buffer)
         }
-        Call::Hour(hour, buffer) => with_hour(desk, desk.book, hour, buffer),
-        Call::HourQuestion(question) => at_hour(desk, question, tree, sheet, book),
+        AtHour::Hour(hour, buffer) => with_hour(desk, desk.book, hour, buffer),
+        AtHour::Question(question) => at_hour(desk, question, tree, sheet, book),
+    }
+}
+
+// The desk after a call that is not at an hour.
+fn stores_after(desk: Desk, call: Call, tree: &mut [u8], sheet: &mut [u8]) -> Desk {
+    match call {
+        Call::Stores(one, two) => set_stores(desk, one, two, tree, sheet),
         _ => on_stores(desk, call, tree, sheet),
     }
 }
 
 // The desk for the next call.
 fn desk_after(desk: Desk, call: Call, tree: &mut [u8], sheet: &mut [u8], book: &mut [u8]) -> Desk {
-    match call {
-        Call::Stores(one, two) => set_stores(desk, one, two, tree, sheet),
-        _ => hour_after(desk, call, tree, sheet, book),
+    if let Call::AtHour(asked) = call {
+        return hour_after(desk, asked, tree, sheet, book);
     }
+    stores_after(desk, call, tree, sheet)
 }
 
 // A proved loop has to end, so there is a most number of calls.

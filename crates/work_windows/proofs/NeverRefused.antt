@@ -95,11 +95,16 @@ module _ (state : State) (tree-store sheet-store book : List ℕ) (k n hour : �
   question-unfaulted =
       let level = level-absent in
       let short = first-of-absent lent (parts .1) .1 .1 .0 in
-      absent-first-of (question-rules state tree-store after k n s)
-      (level .0,
-      (level .1 .0,
-      (level .1 .1 .0,
-      (level .1 .1 .1 .0, (same-sheet, (same-tree ∙ level .1 .1 .1 .1 .1 .0, (short, tt)))))))
+      absent-first-of (question-rules state tree-store after k n s) (
+        level .0,
+        (
+          level .1 .0,
+          (
+            level .1 .1 .0,
+            (level .1 .1 .1 .0, (same-sheet, (same-tree ∙ level .1 .1 .1 .1 .1 .0, (short, tt)))),
+          ),
+        ),
+      )
 
   -- so the question is answered, with the report of the hour's sheet
   pub hour-answered : outcome-of state tree-store after k n s ≡ Answered (report-of (unit written) tree written k n)

@@ -161,8 +161,7 @@ module _ (state : State) (tree-store sheet-store book : List ℕ) (k n hour : �
               → All-promised reply after left
           unfolding hour-reply buffer-left hour-slices
           answered-all after w reply er left es kept =
-              rw (ready-fault Absent t)
-              (
+              rw (ready-fault Absent t) (
                 er ∙ ap (λ (b : List ℕ). reply-of state tree-store b k n s) (buffer-is after w),
                 (
                   buffer-is after w,

@@ -19,7 +19,23 @@ const ENTRY_LENGTH: usize = 17;
 
 // The number entry (U, U, U, U): its kind, and four times the bytes of U, low byte first.
 const CERTAIN_ENTRY: [u8; 17] = [
-    0, 0, 202, 154, 59, 0, 202, 154, 59, 0, 202, 154, 59, 0, 202, 154, 59,
+    0,
+    0,
+    202,
+    154,
+    59,
+    0,
+    202,
+    154,
+    59,
+    0,
+    202,
+    154,
+    59,
+    0,
+    202,
+    154,
+    59,
 ];
 
 // Puts an event at four numbers U, in the sheet at the front of the buffer.

@@ -32,8 +32,7 @@ returns c =
     let converted = asked .before .before .before .before .before in
     let promised = rw (converted .held-state .ensures) at (asked .question-at-hour .ensures) in
     let reply = asked .question-at-hour .result in
-    let kept = kept-by (reply .state) (reply .outcome) _ _ _ _ (slices _ _ _) (promised .1 .1 .1) in
-    (
+    let kept = kept-by (reply .state) (reply .outcome) _ _ _ _ (slices _ _ _) (promised .1 .1 .1) in (
       rw (c .reply-by .ensures, promised .0),
       (promised .1 .0, (promised .1 .1 .0, rw (c .reply-by .ensures) kept)),
     )

@@ -1,5 +1,6 @@
--- `hour_levels::levels::print_hour` meets its contract.
+-- `hour_levels::levels::print_hour` is safe and ends.
 use borrow.Author.Needs.{needs}
+use Rattle.printer.proofs.TextLength.{complete-inside, complete-counted}
 use Rattle.hour_levels.proofs.levels.print_hour.Statement.{statement}
 use Rattle.hour_levels.proofs.levels.print_hour.Tie as tie
 
@@ -31,10 +32,10 @@ enum-known-printed : tie.Need-enum-known-printed
 enum-known-printed c = search needs
 
 array-share-prefix-text : tie.Need-array-share-prefix-text
-array-share-prefix-text c = ?
+array-share-prefix-text c = search (needs, complete-inside)
 
 slice-aggregate-write-all : tie.Need-slice-aggregate-write-all
-slice-aggregate-write-all c = ?
+slice-aggregate-write-all c = search (needs, complete-counted)
 
 write-all-requires : tie.Need-write-all-requires
 write-all-requires c κs = search needs

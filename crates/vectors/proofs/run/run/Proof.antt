@@ -6,11 +6,11 @@ use Rattle.vectors.proofs.run.run.Statement.{statement}
 use Rattle.vectors.proofs.run.run.Tie as tie
 
 abbrev Inv-loop : tie.InvT-loop
-Inv-loop tree₀ sheet₀ desk₀ left₀ tree sheet desk left =
-    (length tree ≡ length tree₀) × (length sheet ≡ length sheet₀)
+Inv-loop tree₀ sheet₀ book₀ desk₀ left₀ tree sheet book desk left =
+    (length tree ≡ length tree₀) × ((length sheet ≡ length sheet₀) × (length book ≡ length book₀))
 
 abbrev μ-loop : tie.MeasureT-loop
-μ-loop tree₀ sheet₀ desk₀ left₀ tree sheet desk left = left
+μ-loop tree₀ sheet₀ book₀ desk₀ left₀ tree sheet book desk left = left
 
 empty-desk-requires : tie.Need-empty-desk-requires Inv-loop μ-loop
 empty-desk-requires c κs = search needs
@@ -30,6 +30,9 @@ same-length c = search needs
 same-length-2 : tie.Need-same-length-2 Inv-loop μ-loop
 same-length-2 c = search needs
 
+same-length-3 : tie.Need-same-length-3 Inv-loop μ-loop
+same-length-3 c = search needs
+
 returns : tie.Need-returns Inv-loop μ-loop
 returns c = search needs
 
@@ -45,11 +48,14 @@ loop-less c = search needs
 loop-again : tie.Need-loop-again Inv-loop μ-loop
 loop-again c = search needs
 
-same-length-3 : tie.Need-same-length-3 Inv-loop μ-loop
-same-length-3 c = search needs
-
 same-length-4 : tie.Need-same-length-4 Inv-loop μ-loop
 same-length-4 c = search needs
+
+same-length-5 : tie.Need-same-length-5 Inv-loop μ-loop
+same-length-5 c = search needs
+
+same-length-6 : tie.Need-same-length-6 Inv-loop μ-loop
+same-length-6 c = search needs
 
 returns-2 : tie.Need-returns-2 Inv-loop μ-loop
 returns-2 c = search needs
@@ -66,11 +72,13 @@ run-spec =
     enum-told
     same-length
     same-length-2
+    same-length-3
     returns
     desk-after-requires
     sub-left
     loop-less
     loop-again
-    same-length-3
     same-length-4
+    same-length-5
+    same-length-6
     returns-2)
