@@ -49,7 +49,7 @@ be listed; 128 + n ended by the signal n (INT, TERM, HUP or QUIT), with all that
 
 EXAMPLE = ("examples/fuel_supply/tree.ftf", "examples/fuel_supply/sheet.fts", "10")
 
-# The options of a question for an hour, with their words.
+# The options of a question at an hour, with their words.
 OPTIONS = {"--windows": "BOOK", "--hour": "H"}
 
 

@@ -1,7 +1,7 @@
 /*
  * Nekbrod, a proved risk monitor for fault trees: the calls for C and C++.
  *
- * The monitor holds one tree file and one opinion sheet, answers a level with an enclosure of the top probability, for
+ * The monitor holds one tree file and one opinion sheet, answers a level with an enclosure of the top probability, at
  * an hour of a book of work windows too, and lists the tree's minimal cut sets. It has no memory of its own: what it
  * holds is two lengths, which the caller keeps between calls, and the bytes of both files, which lie in two stores that
  * the caller lends at each call. Calls that write to different memory may run at the same time.
@@ -27,7 +27,7 @@ extern "C" {
 #endif
 
 /* The version of this header: major, minor and patch, a byte each. nekbrod_version answers that of the library. */
-#define NEKBROD_VERSION 0x000301u
+#define NEKBROD_VERSION 0x000400u
 
 /* Ends are counted in units: one unit is a billionth, so this is the probability 1. */
 #define NEKBROD_ONE 1000000000u
@@ -193,7 +193,7 @@ nekbrod_reply nekbrod_question(nekbrod_state state, const uint8_t *tree_store, s
                                size_t marks_len);
 
 /*
- * Questions level k of n for an hour, with the parts that are out of service then. Hours are counted from
+ * Questions level k of n at an hour, with the parts that are out of service then. Hours are counted from
  * commissioning. The book is a row of work windows of 10 bytes, numbers low byte first: a 16-bit basic event at byte 0,
  * a 32-bit first hour at 2 and a 32-bit end hour at 6. A window is open from its first hour to the hour before its end
  * hour. An event in an open window is counted as failed with certainty, whatever the held sheet says of it; overlapping

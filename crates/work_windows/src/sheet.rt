@@ -17,25 +17,34 @@ const HEADER_LENGTH: usize = 26;
 
 const ENTRY_LENGTH: usize = 17;
 
-// The number entry (U, U, U, U): its kind, and four times the bytes of U, low byte first.
+// The bytes of U, low byte first.
+const U0: u8 = 0;
+
+const U1: u8 = 202;
+
+const U2: u8 = 154;
+
+const U3: u8 = 59;
+
+// The number entry (U, U, U, U): its kind, and four times U.
 const CERTAIN_ENTRY: [u8; 17] = [
     0,
-    0,
-    202,
-    154,
-    59,
-    0,
-    202,
-    154,
-    59,
-    0,
-    202,
-    154,
-    59,
-    0,
-    202,
-    154,
-    59,
+    U0,
+    U1,
+    U2,
+    U3,
+    U0,
+    U1,
+    U2,
+    U3,
+    U0,
+    U1,
+    U2,
+    U3,
+    U0,
+    U1,
+    U2,
+    U3,
 ];
 
 // Puts an event at four numbers U, in the sheet at the front of the buffer.
