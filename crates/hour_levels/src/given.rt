@@ -1,5 +1,5 @@
-// What is given on standard input: 16-bit n, tree length, sheet length and book length and a 32-bit hour, low byte first,
-// then the tree, the sheet and the book. Each function answers whether all of its text was written.
+// What is given on standard input: 16-bit n, tree length, sheet length and book length and a 32-bit hour, low byte
+// first, then the tree, the sheet and the book. Each function answers whether all of its text was written.
 use crate::answer::print_pair;
 use crate::part::front;
 use crate::print::print_input;

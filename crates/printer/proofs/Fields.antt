@@ -2,9 +2,9 @@
 use Prim.Native.Nat.{ℕ, _+_, _-_, _≤_, _<_}
 use native.Mathlib.Omega.{arith}
 use mathlib.Core.Path.{_≡_, ap, _∙_}
-use mathlib.Core.List.{List, [], _∷_, _++_, append-nil}
-use lib.ListN.{length, take, drop, set, length-append, length-drop, drop-of-length-le}
-use lib.Seq.{take-length, drop-drop}
+use mathlib.Core.List.{List, [], _∷_, _++_}
+use lib.ListN.{length, take, drop, set, length-append, length-drop}
+use lib.Seq.{take-length}
 use borrow.Rule.Slice.PartMut.{putMid, same-len-mid}
 use Rattle.fields.proofs.Parts.{part-from, copied-at}
 use Rattle.printer.specs.Line.{ended}

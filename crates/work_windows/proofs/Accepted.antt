@@ -1,22 +1,19 @@
 -- The hour's sheet is an accepted one, for the same tree, and with the counts of the held sheet.
 use Prim.Native.Nat.{ℕ, _+_, _*_, _≤_, _<_}
-use mathlib.Core.Path.{_≡_, refl, sym, ap, subst, _∙_}
+use mathlib.Core.Path.{_≡_, refl, sym, ap, _∙_}
 use mathlib.Core.Bool.{Bool, true, false}
 use mathlib.Core.List.{List}
-use native.Mathlib.Nat.{add-assoc}
 use native.Mathlib.Omega.{arith}
 use lib.Dec.{lit<, lit≤}
-use lib.ListN.{length}
-use Rattle.fields.specs.Fields.{byte, field16, field24, field32}
+use Rattle.fields.specs.Fields.{field16, field24, field32}
 use Rattle.fields.proofs.Alike.{Alike, alike-from, byte-alike, field16-alike, field24-alike, field32-alike}
 use Rattle.refusals.specs.declared.refusal.FirstFault.the-variants.{Absent}
-use Rattle.opinion_sheet.specs.Format.{entry-at, event-count, expert-count, kind, score, term, terms-at, tree-number}
-use Rattle.opinion_sheet.specs.Format.{unit, version, required-length}
-use Rattle.opinion_sheet.specs.EntryRules.{numbers-of, fractions-of, last-byte}
+use Rattle.opinion_sheet.specs.Format.{entry-at, event-count, expert-count, kind, score, term, terms-at}
+use Rattle.opinion_sheet.specs.Format.{unit}
+use Rattle.opinion_sheet.specs.EntryRules.{numbers-of, fractions-of}
 use Rattle.opinion_sheet.specs.Judged.{fault-of, counts-of}
-use Rattle.opinion_sheet.specs.WellFormed.{WellFormed, WellFormedEntry, WellFormedHeader, WellFormedNumbers}
+use Rattle.opinion_sheet.specs.WellFormed.{WellFormed, WellFormedEntry, WellFormedHeader}
 use Rattle.opinion_sheet.specs.WellFormed.{WellFormedOpinions, WellFormedScores}
-use Rattle.opinion_sheet.specs.declared.judgement.Counts.{Counts}
 use Rattle.opinion_sheet.proofs.Accepted.{accepted-absent, well-formed-accepted}
 use Rattle.work_windows.specs.Sheet.{Written}
 

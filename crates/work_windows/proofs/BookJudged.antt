@@ -1,5 +1,5 @@
 -- The judging of a book: by what is found of a window and of the length, and what a fault or none means.
-use Prim.Native.Nat.{ℕ, _+_, _*_, _/_, _%_, _≤_, _<_}
+use Prim.Native.Nat.{ℕ, _+_, _*_, _%_, _≤_, _<_}
 use mathlib.Core.Path.{_≡_, refl, sym, ap, _∙_}
 use mathlib.Core.Bool.{Bool, true, false, true≢false, _&&_, and-eq-true-iff}
 use mathlib.Core.Logic.{_⊎_, inl, inr, ⊎-elim}
@@ -10,11 +10,11 @@ use lib.Dec.{leb, ltb, eqb}
 use borrow.Author.Tests.{leb-true, leb-false, le-leb, lt-leb, ltb-true, ltb-false, lt-ltb, le-ltb, eqb-true, eqb-false}
 use borrow.Author.Tests.{eq-eqb, ne-eqb}
 use Rattle.refusals.specs.FirstFault.{unless, _or-else_, first-of, first-among}
-use Rattle.refusals.specs.Order.{refusal, stage, order-place, Earlier, by-place, First, Finds}
+use Rattle.refusals.specs.Order.{refusal, stage, order-place, Earlier, by-place, Finds}
 use Rattle.refusals.specs.declared.rule.Rule.the-variants.{WrongBook}
 use Rattle.refusals.specs.declared.refusal.Refusal.{Refusal}
 use Rattle.refusals.specs.declared.refusal.FirstFault.{FirstFault}
-use Rattle.refusals.specs.declared.refusal.FirstFault.the-variants.{Found, Absent}
+use Rattle.refusals.specs.declared.refusal.FirstFault.the-variants.{Absent}
 use Rattle.refusals.proofs.FirstFault.{All-absent, first-of-absent, among-each, among-absent, or-else-absent}
 use Rattle.refusals.proofs.FirstFault.{unless-holds}
 use Rattle.refusals.proofs.Finds.{Case, Among, finds-same, finds-unless, finds-either, finds-last, finds-rule}

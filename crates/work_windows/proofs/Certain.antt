@@ -1,6 +1,6 @@
 -- An event in an open window is certain at every level: its reported cut is from U to U, both ends exact.
 use Prim.Native.Nat.{ℕ, _+_, _-_, _*_, _%_, _<_}
-use mathlib.Core.Path.{_≡_, refl, sym, ap, _∙_}
+use mathlib.Core.Path.{_≡_, ap, _∙_}
 use mathlib.Core.Bool.{Bool, true}
 use mathlib.Core.List.{List}
 use native.Mathlib.Nat.{mul-comm, mul-pos, zero-mul}

@@ -1,8 +1,8 @@
 -- The entries of a sheet one after the other, each as held or replaced: their lengths and bytes, and one more replaced.
 use Prim.Native.Nat.{ℕ, zero, suc, _+_, _*_, _≤_, _<_}
-use mathlib.Core.Path.{_≡_, refl, sym, ap, subst, _∙_}
+use mathlib.Core.Path.{_≡_, refl, sym, ap, _∙_}
 use mathlib.Core.Bool.{Bool, true, false, _||_, cond}
-use mathlib.Core.List.{List, [], _∷_, _++_, append-assoc}
+use mathlib.Core.List.{List, [], _++_, append-assoc}
 use native.Mathlib.Decide.{ℕ-discrete}
 use native.Mathlib.Nat.{not-suc-le-zero}
 use native.Mathlib.Omega.{arith}
@@ -10,7 +10,7 @@ use lib.Dec.{eqb}
 use lib.ListN.{length, take, drop, getD, length-append, length-drop, List·getD-append}
 use lib.Seq.{length-take-le, take-add, drop-drop, take-at, drop-at, getD-append-add}
 use borrow.Author.Tests.{eq-eqb, ne-eqb}
-use Rattle.opinion_sheet.specs.Format.{header-length, entry-length, entry-at, event-count, required-length, unit}
+use Rattle.opinion_sheet.specs.Format.{header-length, entry-at, event-count, required-length, unit}
 use Rattle.work_windows.specs.Sheet.{certain-entry, written-entry, written-entries}
 use Rattle.work_windows.proofs.OutOfService.{or-false, or-true}
 
@@ -38,7 +38,12 @@ module _ (sheet : List ℕ) where
       → written-entries sheet out n ≡ written-entries sheet other n
   entries-alike out other zero h = entries-none out ∙ sym (entries-none other)
   entries-alike out other (suc n) h =
-      rw (entries-next out n, entries-next other n, entries-alike out other n (λ x l. h x (omega arith)), h n (omega arith))
+      rw (
+        entries-next out n,
+        entries-next other n,
+        entries-alike out other n (λ x l. h x (omega arith)),
+        h n (omega arith),
+      )
 
   -- where none is, they are as held
   pub entries-held : (n : ℕ) → written-entries sheet (λ x. false) n ≡ take (17 * n) (drop header-length sheet)
@@ -90,7 +95,8 @@ module _ (sheet : List ℕ) where
             ∙ getD-append-add (written-entries sheet out n) (written-entry sheet out n) j 0
             ∙ ap (λ (x : ℕ). getD (written-entry sheet out x) j 0) (sym same)
         go earlier (no other) =
-            List·getD-append (written-entries sheet out n) (written-entry sheet out n) 0 (17 * e + j) (omega (arith, long))
+            List·getD-append (written-entries sheet out n) (written-entry sheet out n) 0 (17 * e + j)
+            (omega (arith, long))
             ∙ earlier (omega arith)
 
     -- the certain entry in the place of one event's

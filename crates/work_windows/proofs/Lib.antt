@@ -1,5 +1,7 @@
--- The laws behind the contracts, in the order of the argument.
-pub mod Windows
+-- The laws behind the contracts, in the order of the argument: the judging of a book; which events are out of service;
+-- the entries and the sheet that are written, and how one window after the other leads there; that this sheet is
+-- accepted, and an event that is out of service certain; the reply; and that it is no refusal once the sheet is
+-- written.
 pub mod BookJudged
 pub mod OutOfService
 pub mod EntriesWritten

@@ -1,12 +1,11 @@
 -- Once the hour's sheet is written, the question that is put to it is answered: none of monitor's rules refuses it.
 use Prim.Native.Nat.{ℕ, _≤_}
-use mathlib.Core.Path.{_≡_, refl, sym, ap, _∙_}
-use mathlib.Core.List.{List, _++_}
+use mathlib.Core.Path.{_≡_, sym, ap, _∙_}
+use mathlib.Core.List.{List}
 use native.Mathlib.Omega.{arith}
-use lib.ListN.{length, take, drop, length-append, length-drop}
+use lib.ListN.{length, drop, length-append}
 use lib.Seq.{length-take-le, take-at}
-use borrow.Author.Tests.{leb-true}
-use Rattle.refusals.specs.FirstFault.{unless, _or-else_, first-of}
+use Rattle.refusals.specs.FirstFault.{unless, first-of}
 use Rattle.refusals.specs.declared.rule.Rule.the-variants.{OtherTree}
 use Rattle.refusals.specs.declared.refusal.FirstFault.{FirstFault}
 use Rattle.refusals.specs.declared.refusal.FirstFault.the-variants.{Absent}
@@ -20,7 +19,7 @@ use Rattle.opinion_sheet.specs.WellFormed.{WellFormed}
 use Rattle.opinion_sheet.specs.declared.judgement.Counts.{Counts as SheetCounts}
 use Rattle.opinion_sheet.proofs.Accepted.{accepted-well-formed}
 use Rattle.evaluation.specs.Slices.{Slices}
-use Rattle.monitor.specs.Standing.{held-tree, held-sheet, sheet-changed, other-tree, fitting, level-rules, short-slice}
+use Rattle.monitor.specs.Standing.{held-tree, held-sheet, sheet-changed, other-tree, fitting, level-rules}
 use Rattle.monitor.specs.Question.{outcome-by, outcome-of, question-rules, report-of}
 use Rattle.monitor.specs.declared.state.State.{State}
 use Rattle.monitor.specs.declared.question.Outcome.the-variants.{Answered}
@@ -110,6 +109,6 @@ module _ (state : State) (tree-store sheet-store book : List ℕ) (k n hour : �
   pub hour-answered : outcome-of state tree-store after k n s ≡ Answered (report-of (unit written) tree written k n)
   unfolding outcome-of
   hour-answered =
-      ap (λ (f : FirstFault). outcome-by f (report-of (unit (held-sheet state after)) tree (held-sheet state after) k n))
-      question-unfaulted
+      let held = held-sheet state after in
+      ap (λ (f : FirstFault). outcome-by f (report-of (unit held) tree held k n)) question-unfaulted
       ∙ ap (λ (x : List ℕ). Answered (report-of (unit x) tree x k n)) front

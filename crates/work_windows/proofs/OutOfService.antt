@@ -71,7 +71,8 @@ module _ (book : List ℕ) (hour event : ℕ) where
   pub out-shows : out-of-service book hour event ≡ true → Open-window book hour event
   out-shows e =
       let a = among-shows (window-count book) e in
-      let both = and-eq-true-iff (open-at book hour (a .window)) (eqb (window-event book (a .window)) event) .0 (a .has) in
+      let both =
+      and-eq-true-iff (open-at book hour (a .window)) (eqb (window-event book (a .window)) event) .0 (a .has) in
       let hours =
       and-eq-true-iff (leb (first-hour book (a .window)) hour) (ltb hour (end-hour book (a .window))) .0 (both .0) in
       record {

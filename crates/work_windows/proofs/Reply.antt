@@ -1,9 +1,9 @@
 -- The reply at an hour, with the buffer and the slices after it, by what the judging finds: one law for each return.
 use Prim.Native.Nat.{ℕ, _≤_, _<_}
 use mathlib.Core.Path.{_≡_, refl, sym, ap, subst, _∙_}
-use mathlib.Core.List.{List, [], _∷_, _++_}
+use mathlib.Core.List.{List, _++_}
 use native.Mathlib.Omega.{arith}
-use lib.ListN.{length, take, drop, length-append, length-drop}
+use lib.ListN.{length, take, drop}
 use lib.Seq.{length-take-le, take-at}
 use borrow.Author.Tests.{le-leb, lt-leb, leb-true}
 use Rattle.theory.specs.Unit.{billion}
@@ -16,7 +16,6 @@ use Rattle.refusals.proofs.FirstFault.{first-of-absent, first-of-append, or-els
 use Rattle.tree_file.specs.Format.{node-count}
 use Rattle.tree_file.specs.Tallies.{event-count}
 use Rattle.tree_file.specs.declared.judgement.Counts.{Counts}
-use Rattle.opinion_sheet.specs.Format.{event-count as entry-count}
 use Rattle.evaluation.specs.Slices.{Slices}
 use Rattle.monitor.specs.Standing.{held-tree, held-sheet, level-rules, short-slice, standing-of}
 use Rattle.monitor.specs.Question.{reply-of, slices-left}
@@ -28,10 +27,9 @@ use Rattle.monitor.specs.declared.question.Outcome.the-variants.{Refused}
 use Rattle.monitor.specs.declared.question.Reply.{Reply}
 use Rattle.monitor.proofs.Standing.{ready-absent, standing-found}
 use Rattle.monitor.proofs.Ready.{Ready-pair, ready-pair}
-use Rattle.work_windows.specs.Book.{window-count, window-event}
 use Rattle.work_windows.specs.BookRules.{book-fault}
 use Rattle.work_windows.specs.Sheet.{written-sheet}
-use Rattle.work_windows.specs.Question.{lent-rules, short-buffer, hour-rules, written-buffer, hour-reply}
+use Rattle.work_windows.specs.Question.{lent-rules, hour-rules, written-buffer, hour-reply}
 use Rattle.work_windows.specs.Question.{buffer-left, hour-slices}
 use Rattle.work_windows.specs.Writing.{Writable}
 use Rattle.work_windows.proofs.BookJudged.{unfaulted-well-formed}
@@ -115,7 +113,8 @@ module _ (state : State) (tree-store sheet-store book : List ℕ) (k n hour : �
         -- what is lent is judged by the tree's own counts
         lent-is : (f : FirstFault) → found-lent ≡ f → lent ≡ f
         lent-is f t =
-            ap (λ (c : Counts). first-of (lent-rules (c .events) (c .nodes) (state .«sheet_len») book (length buffer) s))
+            ap (λ (c : Counts).
+            first-of (lent-rules (c .events) (c .nodes) (state .«sheet_len») book (length buffer) s))
             (sym (ready .counts-is))
             ∙ sym le ∙ t
 
@@ -132,7 +131,8 @@ module _ (state : State) (tree-store sheet-store book : List ℕ) (k n hour : �
           -- what writing the hour's sheet asks
           pub writable : Writable sheet book buffer
           writable =
-              let absent = first-of-absent (lent-rules (event-count tree) _ (state .«sheet_len») book _ s) (lent-is Absent t) in
+              let absent =
+              first-of-absent (lent-rules (event-count tree) _ (state .«sheet_len») book _ s) (lent-is Absent t) in
               let formed = unfaulted-well-formed (event-count tree) book (absent .0) in
               let room : state .«sheet_len» ≤ length buffer = leb-true _ _ (unless-holds _ _ _ (absent .1 .0)) in
               record {
@@ -167,7 +167,8 @@ module _ (state : State) (tree-store sheet-store book : List ℕ) (k n hour : �
                   buffer-is after w,
                   (
                     es ∙ ap (λ (b : List ℕ). slices-left state tree-store b k n s) (buffer-is after w),
-                    subst (λ (x : List ℕ). Promises-kept billion (reply .outcome) tree x k n left) (front-is after w) kept,
+                    subst (λ (x : List ℕ). Promises-kept billion (reply .outcome) tree x k n left)
+                        (front-is after w) kept,
                   ),
                 ),
               )

@@ -1,23 +1,22 @@
 -- The sheet of an hour: what its bytes are, and how the windows, written one after the other, lead to it.
-use Prim.Native.Nat.{ℕ, zero, suc, _+_, _*_, _≤_, _<_}
+use Prim.Native.Nat.{ℕ, zero, suc, _+_, _*_, _<_}
 use mathlib.Core.Path.{_≡_, refl, sym, ap, _∙_}
-use mathlib.Core.Bool.{Bool, true, false, _&&_, _||_, cond}
+use mathlib.Core.Bool.{Bool, true, false, cond}
 use mathlib.Core.List.{List, _++_, append-assoc}
 use native.Mathlib.Nat.{add-assoc, add-zero}
 use native.Mathlib.Omega.{arith}
-use lib.Dec.{eqb, lit<}
-use lib.ListN.{length, take, drop, getD, length-append, List·getD-append}
-use lib.Seq.{length-take-le, take-length, take-add, take-append-add, drop-append-add, getD-append-add, getD-take, getD-drop}
-use Rattle.theory.specs.Unit.{billion}
+use lib.Dec.{lit<}
+use lib.ListN.{length, take, drop, length-append, List·getD-append}
+use lib.Seq.{length-take-le, take-length, take-add, take-append-add, drop-append-add, getD-append-add, getD-take}
+use lib.Seq.{getD-drop}
 use Rattle.fields.specs.Fields.{byte, bytes32, field16, field32}
-use Rattle.fields.proofs.Alike.{Alike, field32-alike}
+use Rattle.fields.proofs.Alike.{field32-alike}
 use Rattle.fields.proofs.Written.{field32-bytes32}
-use Rattle.opinion_sheet.specs.Format.{header-length, entry-length, entry-at, event-count, required-length, unit, kind}
+use Rattle.opinion_sheet.specs.Format.{header-length, entry-at, event-count, required-length, unit, kind}
 use Rattle.opinion_sheet.specs.EntryRules.{numbers-of}
-use Rattle.opinion_sheet.specs.declared.entry.Numbers.{Numbers}
-use Rattle.work_windows.specs.Book.{window-count, window-event, open-at}
-use Rattle.work_windows.specs.OutOfService.{out-among, out-of-service}
-use Rattle.work_windows.specs.Sheet.{certain-entry, written-entry, written-entries, sheet-with, written-sheet}
+use Rattle.work_windows.specs.Book.{window-event, open-at}
+use Rattle.work_windows.specs.OutOfService.{out-among}
+use Rattle.work_windows.specs.Sheet.{certain-entry, written-entry, written-entries, sheet-with}
 use Rattle.work_windows.specs.Sheet.{Written}
 use Rattle.work_windows.specs.Writing.{with-certain, window-written, windows-written}
 use Rattle.work_windows.proofs.OutOfService.{or-false, out-none, out-next}
@@ -79,16 +78,21 @@ module _ (sheet : List ℕ) where
     unfolding sheet-with
     sheet-byte out e j le lj =
         ap (byte (sheet-with sheet out)) (add-assoc 26 (17 * e) j)
-        ∙ past-byte (take header-length sheet) (written-entries sheet out (event-count sheet)) 26 (17 * e + j) header-long
+        ∙ past-byte (take header-length sheet) (written-entries sheet out (event-count sheet)) 26 (17 * e + j)
+        header-long
         ∙ entry-byte sheet formed out (event-count sheet) (omega arith) e j le lj
 
     module _ (out : ℕ → Bool) (e : ℕ) (le : e < event-count sheet) where
+      -- the entry, by whether its event is out of service
+      abbrev entry-by : Bool → List ℕ
+      entry-by b = cond b (certain-entry (unit sheet)) (take 17 (drop (entry-at sheet e) sheet))
+
       -- an event that is not out of service keeps its bytes
       kept-bytes : out e ≡ false → (j : ℕ) → j < 17
           → byte (sheet-with sheet out) (entry-at sheet e + j) ≡ byte sheet (entry-at sheet e + j)
       kept-bytes o j lj =
           sheet-byte out e j le lj
-          ∙ ap (λ (b : Bool). byte (cond b (certain-entry (unit sheet)) (take 17 (drop (entry-at sheet e) sheet))) j) o
+          ∙ ap (λ (b : Bool). byte (entry-by b) j) o
           ∙ getD-take 17 (drop (entry-at sheet e) sheet) j 0 lj
           ∙ getD-drop (entry-at sheet e) sheet j 0
 
@@ -98,7 +102,7 @@ module _ (sheet : List ℕ) where
             → byte (sheet-with sheet out) (entry-at sheet e + j) ≡ byte (certain-entry (unit sheet)) j
         certain-bytes j lj =
             sheet-byte out e j le lj
-            ∙ ap (λ (b : Bool). byte (cond b (certain-entry (unit sheet)) (take 17 (drop (entry-at sheet e) sheet))) j) o
+            ∙ ap (λ (b : Bool). byte (entry-by b) j) o
 
         -- so each of its numbers is U
         number-read : (d : ℕ) → d + 3 < 17 → field32 (certain-entry (unit sheet)) d ≡ unit sheet

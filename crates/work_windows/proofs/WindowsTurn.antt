@@ -1,5 +1,5 @@
 -- The windows written one after the other: what holds at each turn, and what the hour's sheet asks and leaves.
-use Prim.Native.Nat.{ℕ, suc, _+_, _*_, _≤_, _<_}
+use Prim.Native.Nat.{ℕ, _+_, _≤_, _<_}
 use mathlib.Core.Path.{_≡_, refl, sym, ap, _∙_}
 use mathlib.Core.Bool.{true, false}
 use mathlib.Core.List.{List, _++_}
@@ -7,7 +7,7 @@ use native.Mathlib.Numerals.{add-one}
 use native.Mathlib.Omega.{arith}
 use lib.ListN.{length, take, drop}
 use lib.Seq.{take-length}
-use Rattle.opinion_sheet.specs.Format.{entry-length, entry-at, unit}
+use Rattle.opinion_sheet.specs.Format.{unit}
 use Rattle.work_windows.specs.Book.{window-count, window-event, open-at}
 use Rattle.work_windows.specs.Sheet.{written-sheet}
 use Rattle.work_windows.specs.Writing.{with-certain, window-written, windows-written, Entry-inside}

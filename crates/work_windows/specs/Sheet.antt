@@ -1,6 +1,6 @@
 -- The sheet that is written for an hour: the held one, with the entry of each basic event that is out of service
 -- replaced by four numbers U, the probability 1.
-use Prim.Native.Nat.{ℕ, zero, suc, _+_, _≤_, _<_}
+use Prim.Native.Nat.{ℕ, zero, suc, _+_, _<_}
 use mathlib.Core.Path.{_≡_}
 use mathlib.Core.Bool.{Bool, true, false, cond}
 use mathlib.Core.List.{List, [], _∷_, _++_}
@@ -9,7 +9,6 @@ use Rattle.fields.specs.Fields.{byte, bytes32}
 use Rattle.opinion_sheet.specs.Format.{header-length, entry-length, entry-at, event-count, kind, numbers-kind}
 use Rattle.opinion_sheet.specs.Format.{unit}
 use Rattle.opinion_sheet.specs.EntryRules.{numbers-of}
-use Rattle.opinion_sheet.specs.declared.entry.Numbers.{Numbers}
 use Rattle.work_windows.specs.OutOfService.{out-of-service}
 
 -- The number entry (U, U, U, U): its kind, and four 32-bit numbers.

@@ -6,11 +6,10 @@ use refusals::refusal::Refusal;
 use refusals::rule::Rule;
 ghost use mathlib.Core.Path.{_≡_};
 ghost use mathlib.Core.Bool.{false};
-ghost use Prim.Native.Nat.{_*_, _≤_, _<_};
-ghost use lib.ListN.{length};
+ghost use Prim.Native.Nat.{_≤_, _<_};
 ghost use Rattle.refusals.specs.FirstFault.{first-among, unless};
 ghost use Rattle.refusals.specs.declared.rule.Rule.the-variants.{WrongBook};
-ghost use Rattle.work_windows.specs.Book.{window-length, window-count, open-at};
+ghost use Rattle.work_windows.specs.Book.{window-count, open-at};
 ghost use Rattle.work_windows.specs.BookRules.{book-fault, window-fault};
 
 // The length of a window, and the most bytes of a book: 256 windows.

@@ -6,7 +6,6 @@ use refusals::refusal::Refusal;
 use refusals::rule::Rule;
 use tree_file::judgement::Counts;
 ghost use mathlib.Core.Path.{_≡_};
-ghost use lib.ListN.{length};
 ghost use Rattle.refusals.specs.FirstFault.{first-of};
 ghost use Rattle.evaluation.specs.Slices.{slices};
 ghost use Rattle.work_windows.specs.Question.{lent-rules};

@@ -72,7 +72,8 @@ fn put_window(book: &[u8], i: usize, hour: u32, buffer: &mut [u8])
 fn put_windows(book: &[u8], count: usize, hour: u32, buffer: &mut [u8])
     requires { ⌜ count ≤ window-count (now book) ⌝ }
     requires { ⌜ Entries-inside (now book) count (now buffer) ⌝ }
-    ensures { λ _. ⌜ now (buffer .exit) ≡ windows-written billion (now (book .entry)) hour count (now (buffer .entry)) ⌝ }
+    ensures { λ _. ⌜ now (buffer .exit)
+        ≡ windows-written billion (now (book .entry)) hour count (now (buffer .entry)) ⌝ }
 {
     let mut i = 0;
     while i < count {

@@ -18,7 +18,8 @@ wrong-book-requires c κs = search needs
 returns : tie.Need-returns
 returns c =
     let read = c .before .before in
-    c .wrong-book .ensures ∙ event-wrong _ _ _ _ (read .field16-at .ensures .value) (omega (arith, c .before .if1 .taken))
+    c .wrong-book .ensures
+    ∙ event-wrong _ _ _ _ (read .field16-at .ensures .value) (omega (arith, c .before .if1 .taken))
 
 add-field32-at : tie.Need-add-field32-at
 add-field32-at c = search needs
@@ -45,8 +46,8 @@ returns-2 c =
     let below = begun .before in
     let read = below .before in
     c .wrong-book2 .ensures
-    ∙ end-wrong _ _ _ _ (read .field16-at .ensures .value) (omega (arith, below .if1 .left)) _ (begun .field32-at .ensures) _
-    (ended .field32-at2 .ensures) (omega (arith, c .before .if2 .taken))
+    ∙ end-wrong _ _ _ _ (read .field16-at .ensures .value) (omega (arith, below .if1 .left)) _
+    (begun .field32-at .ensures) _ (ended .field32-at2 .ensures) (omega (arith, c .before .if2 .taken))
 
 returns-3 : tie.Need-returns-3
 returns-3 c =
@@ -54,8 +55,8 @@ returns-3 c =
     let begun = ended .before in
     let below = begun .before in
     let read = below .before in
-    window-kept _ _ _ _ (read .field16-at .ensures .value) (omega (arith, below .if1 .left)) _ (begun .field32-at .ensures) _
-    (ended .field32-at2 .ensures) (omega (arith, c .if2 .left))
+    window-kept _ _ _ _ (read .field16-at .ensures .value) (omega (arith, below .if1 .left)) _
+    (begun .field32-at .ensures) _ (ended .field32-at2 .ensures) (omega (arith, c .if2 .left))
 
 pub judge-window-spec : {M : Type 1} → statement M
 judge-window-spec =

@@ -35,7 +35,8 @@ same-length c = search needs
 returns : tie.Need-returns
 returns c =
     let args = c .before .before .before .before .before .before .args in
-    copied-at (now (args .buffer)) (certain-entry billion) (26 + 17 * args .event) _ (c .before .before .copy .ensures .1)
+    copied-at (now (args .buffer)) (certain-entry billion) (26 + 17 * args .event) _
+    (c .before .before .copy .ensures .1)
 
 pub put-certain-spec : {M : Type 1} → statement M
 put-certain-spec =
