@@ -1,11 +1,17 @@
 #!/bin/sh
-# The level printer by itself: inputs at the edges of its format, each answered as said here and as by reference/.
+# The level printer and the hour printer by themselves: inputs at the edges of their formats, each answered as said here
+# and as by reference/.
 # shellcheck source-path=SCRIPTDIR
 . "$(dirname "$0")/checks.sh"
 
 road_tree=$examples/road_trip/tree.ftf
 road_sheet=$examples/road_trip/sheet.fts
 in=$work/input
+hour_levels=$root/target/bin/hour_levels
+needs "$hour_levels" "rt check hour_levels"
+
+# The printer that is given an input, and the word by which reference/ prints the same.
+printer=$levels word=levels
 
 # The printer's input with the true lengths of two files.
 framed() { # N TREE SHEET
@@ -28,8 +34,8 @@ lengths() { # TREE-LENGTH SHEET-LENGTH
 
 # Gives the input to the printer: the first line and the number of lines are as said, every byte as by reference/.
 shows() { # NAME FIRST-LINE LINES
-    run "$levels" <"$in"
-    "$reference" levels <"$in" >"$work/expected"
+    run "$printer" <"$in"
+    "$reference" "$word" <"$in" >"$work/expected"
     hold "$1: status" [ "$status" -eq 0 ]
     hold "$1: first line" [ "$(head -n 1 "$work/out")" = "$2" ]
     hold "$1: lines" [ "$(($(wc -l <"$work/out")))" -eq "$3" ]
@@ -125,36 +131,73 @@ pairs_that_do_not_match() {
 }
 
 # The input comes in two pieces.
-in_pieces() { { head -c 3 "$in"; sleep 0.1; tail -c +4 "$in"; } | "$levels"; }
+in_pieces() { { head -c 3 "$in"; sleep 0.1; tail -c +4 "$in"; } | "$printer"; }
 
-pieces() {
-    road_trip 2 >"$in"
+pieces() { # LEVELS
     run in_pieces
     hold "an input in two pieces: status" [ "$status" -eq 0 ]
-    hold "an input in two pieces: levels" cmp -s "$work/out" "$examples/road_trip/levels-2.txt"
+    hold "an input in two pieces: levels" cmp -s "$work/out" "$1"
 }
 
 # A text that cannot be written is told, in one line on standard error.
 told() { # NAME
     : >"$work/out"
-    echo "levels: the text could not be written" >"$work/due"
+    echo "$(basename "$printer"): the text could not be written" >"$work/due"
     hold "$1" cmp -s "$work/err" "$work/due"
 }
 
 unwritten() {
-    road_trip 2 >"$in"
-    "$levels" <"$in" >&- 2>"$work/err"
+    "$printer" <"$in" >&- 2>"$work/err"
     status=$?
     told "a closed output"
     if [ -c /dev/full ]; then
-        "$levels" <"$in" >/dev/full 2>"$work/err"
+        "$printer" <"$in" >/dev/full 2>"$work/err"
         status=$?
         told "a full disk"
     else
         echo "skipped: a full disk (there is no /dev/full)"
     fi
-    run "$levels" <"$in"
+    run "$printer" <"$in"
     hold "an output that takes it all: nothing told" [ ! -s "$work/err" ]
+}
+
+# The hour printer's input for the example that has a book.
+overhaul() { "$reference" example cooling_pumps input 10 43842; }
+
+# Three lengths and hour 0, and as many bytes as they say, all of them 0.
+three_lengths() { # TREE-LENGTH SHEET-LENGTH BOOK-LENGTH
+    for number in 2 "$1" "$2" "$3" 0 0; do
+        two_bytes "$number"
+    done
+    zeros $(($1 + $2 + $3))
+}
+
+hours() {
+    for length in 0 1 6 11; do
+        overhaul | head -c "$length" >"$in"
+        shows "$length bytes of an hour's input" input 1
+    done
+    zeros 12 >"$in"
+    shows "12 zeros: a tree of 0 bytes" "refused 1 at 0" 1
+    zeros 13 >"$in"
+    shows "13 zeros" input 1
+    whole=$(($(overhaul | wc -c)))
+    overhaul | head -c $((whole - 1)) >"$in"
+    shows "a byte of the book too few" input 1
+    for more in 1 65536 1000000; do
+        { overhaul; zeros "$more"; } >"$in"
+        shows "$more bytes behind the book" input 1
+    done
+    three_lengths 7175 17434 65535 >"$in"
+    shows "all lengths at their most" "refused 2 at 0" 1
+    three_lengths 7176 17434 0 >"$in"
+    shows "an hour's tree length 7,176" input 1
+    three_lengths 7175 17435 0 >"$in"
+    shows "an hour's sheet length 17,435" input 1
+    overhaul >"$in"
+    shows "an hour of an overhaul" "tree 4 events 6 levels 10" 12
+    pieces "$examples/cooling_pumps/levels-10-at-43842.txt"
+    unwritten
 }
 
 answers
@@ -162,6 +205,9 @@ short_inputs
 wrong_sums
 longest_files
 pairs_that_do_not_match
-pieces
+road_trip 2 >"$in"
+pieces "$examples/road_trip/levels-2.txt"
 unwritten
+printer=$hour_levels word=hours
+hours
 finish

@@ -4,15 +4,16 @@ use crate::desk::{fresh_work, holding, refusal, Desk, FILL};
 use reference::describe::{same, sheet_bytes, tree_bytes, Entry, Node};
 use reference::monitor::State;
 
-fn nodes() -> Vec<Node> {
+pub fn nodes() -> Vec<Node> {
     vec![Node::Event, Node::Event, Node::And(vec![1, 0])]
 }
 
-fn entries() -> Vec<Entry> {
+pub fn entries() -> Vec<Entry> {
     vec![same(3), Entry::Four([1, 2, 3, 4])]
 }
 
-fn desk() -> Desk {
+/// Two events; the sheet has 60 bytes and the tree three nodes.
+pub fn desk() -> Desk {
     holding(&nodes(), &[], &entries())
 }
 

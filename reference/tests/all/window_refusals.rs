@@ -1,23 +1,11 @@
 //! Refusals 29 and 30, their places, and the order of all rules of a question at an hour; the desk sees that nothing
 //! changes.
 
+use crate::call_refusals::{desk, entries, nodes};
 use crate::desk::{fresh_work, holding, refusal, Desk, BUFFER_FILL};
-use reference::describe::{book_bytes, same, sheet_bytes, tree_bytes, Entry, Node};
+use reference::describe::{book_bytes, same, sheet_bytes, tree_bytes, Node};
 use reference::monitor::State;
 use reference::work_windows::{Plan, Window};
-
-fn nodes() -> Vec<Node> {
-    vec![Node::Event, Node::Event, Node::And(vec![1, 0])]
-}
-
-fn entries() -> Vec<Entry> {
-    vec![same(3), Entry::Four([1, 2, 3, 4])]
-}
-
-/// Two events; the sheet has 60 bytes and the tree three nodes.
-fn desk() -> Desk {
-    holding(&nodes(), &[], &entries())
-}
 
 fn book(windows: &[(u16, u32, u32)]) -> Vec<u8> {
     let windows: Vec<Window> = windows.iter().map(|&(event, first, end)| Window { event, first, end }).collect();
