@@ -162,7 +162,8 @@ unwritten() {
 }
 
 # The hour printer's input for the example that has a book.
-overhaul() { "$reference" example cooling_pumps input 10 43842; }
+overhaul=$work/overhaul
+"$reference" example cooling_pumps input 10 43842 >"$overhaul"
 
 # Three lengths and hour 0, and as many bytes as they say, all of them 0.
 three_lengths() { # TREE-LENGTH SHEET-LENGTH BOOK-LENGTH
@@ -174,18 +175,18 @@ three_lengths() { # TREE-LENGTH SHEET-LENGTH BOOK-LENGTH
 
 hours() {
     for length in 0 1 6 11; do
-        overhaul | head -c "$length" >"$in"
+        head -c "$length" "$overhaul" >"$in"
         shows "$length bytes of an hour's input" input 1
     done
     zeros 12 >"$in"
     shows "12 zeros: a tree of 0 bytes" "refused 1 at 0" 1
     zeros 13 >"$in"
     shows "13 zeros" input 1
-    whole=$(($(overhaul | wc -c)))
-    overhaul | head -c $((whole - 1)) >"$in"
+    whole=$(($(wc -c <"$overhaul")))
+    head -c $((whole - 1)) "$overhaul" >"$in"
     shows "a byte of the book too few" input 1
     for more in 1 65536 1000000; do
-        { overhaul; zeros "$more"; } >"$in"
+        { cat "$overhaul"; zeros "$more"; } >"$in"
         shows "$more bytes behind the book" input 1
     done
     three_lengths 7175 17434 65535 >"$in"
@@ -194,7 +195,7 @@ hours() {
     shows "an hour's tree length 7,176" input 1
     three_lengths 7175 17435 0 >"$in"
     shows "an hour's sheet length 17,435" input 1
-    overhaul >"$in"
+    cat "$overhaul" >"$in"
     shows "an hour of an overhaul" "tree 4 events 6 levels 10" 12
     pieces "$examples/cooling_pumps/levels-10-at-43842.txt"
     unwritten
