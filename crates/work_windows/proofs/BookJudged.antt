@@ -1,7 +1,7 @@
 -- The judging of a book: by what is found of a window and of the length, and what a fault or none means.
 use Prim.Native.Nat.{ℕ, _+_, _*_, _%_, _≤_, _<_}
 use mathlib.Core.Path.{_≡_, refl, sym, ap, _∙_}
-use mathlib.Core.Bool.{Bool, true, false, true≢false, _&&_, and-eq-true-iff}
+use mathlib.Core.Bool.{Bool, true, false, true≢false, and-eq-true-iff, and-false}
 use mathlib.Core.Logic.{_⊎_, inl, inr, ⊎-elim}
 use mathlib.Core.List.{List, [], _∷_}
 use native.Mathlib.Omega.{arith}
@@ -72,10 +72,6 @@ wrong-says n e = go (leb n most-book) refl
 wrong-shows : (n : ℕ) → (most-book < n) ⊎ (n % window-length ≡ 0 → ⊥) → length-rule n ≡ false
 wrong-shows n (inl l) = rw (lt-leb n most-book l)
 wrong-shows n (inr d) = rw (ne-eqb (n % window-length) 0 d) (and-false (leb n most-book))
-  where
-    and-false : (b : Bool) → b && false ≡ false
-    and-false true = refl
-    and-false false = refl
 
 module _ (E : ℕ) (book : List ℕ) where
   -- a book without a fault is well formed

@@ -1,7 +1,7 @@
 -- The entries of a sheet one after the other, each as held or replaced: their lengths and bytes, and one more replaced.
 use Prim.Native.Nat.{ℕ, zero, suc, _+_, _*_, _≤_, _<_}
 use mathlib.Core.Path.{_≡_, refl, sym, ap, _∙_}
-use mathlib.Core.Bool.{Bool, true, false, _||_, cond}
+use mathlib.Core.Bool.{Bool, true, false, _||_, cond, or-false, or-true}
 use mathlib.Core.List.{List, [], _++_, append-assoc}
 use native.Mathlib.Decide.{ℕ-discrete}
 use native.Mathlib.Nat.{not-suc-le-zero}
@@ -12,7 +12,6 @@ use lib.Seq.{length-take-le, take-add, drop-drop, take-at, drop-at, getD-append-
 use borrow.Author.Tests.{eq-eqb, ne-eqb}
 use Rattle.opinion_sheet.specs.Format.{header-length, entry-at, event-count, required-length, unit}
 use Rattle.work_windows.specs.Sheet.{certain-entry, written-entry, written-entries}
-use Rattle.work_windows.proofs.OutOfService.{or-false, or-true}
 
 -- the certain entry is as long as any
 pub certain-length : (U : ℕ) → length (certain-entry U) ≡ 17
@@ -56,16 +55,19 @@ module _ (sheet : List ℕ) where
       ∙ sym (take-add (17 * n) 17 (drop 26 sheet))
       ∙ ap (λ (m : ℕ). take m (drop 26 sheet)) more
 
+  -- the entry of an event, by whether it is out of service
+  abbrev pub entry-by : ℕ → Bool → List ℕ
+  entry-by e b = cond b (certain-entry (unit sheet)) (take 17 (drop (entry-at sheet e) sheet))
+
   module _ (formed : length sheet ≡ required-length sheet) where
-    entry-by : (b : Bool) (e : ℕ) → e < event-count sheet
-        → length (cond b (certain-entry (unit sheet)) (take 17 (drop (entry-at sheet e) sheet))) ≡ 17
-    entry-by true e l = certain-length (unit sheet)
-    entry-by false e l =
+    entry-by-long : (b : Bool) (e : ℕ) → e < event-count sheet → length (entry-by e b) ≡ 17
+    entry-by-long true e l = certain-length (unit sheet)
+    entry-by-long false e l =
         length-take-le 17 (drop (entry-at sheet e) sheet) (omega (arith, length-drop (entry-at sheet e) sheet))
 
     -- an entry is 17 bytes long
     pub entry-long : (out : ℕ → Bool) (e : ℕ) → e < event-count sheet → length (written-entry sheet out e) ≡ 17
-    entry-long out e l = entry-by (out e) e l
+    entry-long out e l = entry-by-long (out e) e l
 
     pub entries-long : (out : ℕ → Bool) (n : ℕ) → n ≤ event-count sheet
         → length (written-entries sheet out n) ≡ 17 * n

@@ -4,7 +4,7 @@ use mathlib.Core.Path.{_≡_, sym, ap, _∙_}
 use mathlib.Core.List.{List}
 use native.Mathlib.Omega.{arith}
 use lib.ListN.{length, drop, length-append}
-use lib.Seq.{length-take-le, take-at}
+use lib.Seq.{length-take-le}
 use Rattle.refusals.specs.FirstFault.{unless, first-of}
 use Rattle.refusals.specs.declared.rule.Rule.the-variants.{OtherTree}
 use Rattle.refusals.specs.declared.refusal.FirstFault.{FirstFault}
@@ -28,7 +28,7 @@ use Rattle.monitor.proofs.Ready.{unchanged}
 use Rattle.work_windows.specs.OutOfService.{out-of-service}
 use Rattle.work_windows.specs.Sheet.{Written, written-sheet}
 use Rattle.work_windows.specs.Question.{lent-rules, hour-rules, written-buffer}
-use Rattle.work_windows.proofs.SheetWritten.{sheet-means}
+use Rattle.work_windows.proofs.SheetWritten.{sheet-front, sheet-means}
 use Rattle.work_windows.proofs.Accepted.{same-counts, written-unfaulted}
 
 module _ (state : State) (tree-store sheet-store book : List ℕ) (k n hour : ℕ) (buffer : List ℕ) (s : Slices)
@@ -63,22 +63,22 @@ module _ (state : State) (tree-store sheet-store book : List ℕ) (k n hour : �
   sheet-formed : WellFormed sheet
   sheet-formed = accepted-well-formed sheet (sheet-counts sheet) (rw (held .1))
 
+  sheet-length : length sheet ≡ state .«sheet_len»
+  sheet-length = length-take-le (state .«sheet_len») sheet-store (held .0)
+
   -- what the hour's sheet is
   means : Written sheet (out-of-service book hour) written
   means = sheet-means sheet (sheet-formed .header .length-value) (out-of-service book hour)
 
-  written-length : length written ≡ state .«sheet_len»
-  written-length = means .length-kept ∙ length-take-le (state .«sheet_len») sheet-store (held .0)
-
   -- it is the front of the buffer
-  pub front : held-sheet state after ≡ written
-  front = take-at written (drop (state .«sheet_len») buffer) (state .«sheet_len») written-length
+  front : held-sheet state after ≡ written
+  front = sheet-front sheet (sheet-formed .header .length-value) (out-of-service book hour) _ sheet-length _
 
   -- it has not changed, for monitor,
   same-sheet : sheet-changed state after ≡ Absent
   same-sheet =
       let inside : state .«sheet_len» ≤ length after =
-      omega (arith, length-append written (drop (state .«sheet_len») buffer), written-length) in
+      omega (arith, length-append written (drop (state .«sheet_len») buffer), means .length-kept, sheet-length) in
       changed-absent 1 sheet-fault (state .«sheet_len») after inside
       (ap sheet-fault front ∙ written-unfaulted sheet (out-of-service book hour) written means sheet-formed)
 

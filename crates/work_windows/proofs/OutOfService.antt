@@ -1,7 +1,7 @@
 -- An event is out of service exactly where a window has it and is open.
 use Prim.Native.Nat.{ℕ, zero, suc, _<_}
 use mathlib.Core.Path.{_≡_, refl, sym, subst, _∙_}
-use mathlib.Core.Bool.{Bool, true, false, _&&_, _||_, and-eq-true-iff, true≢false}
+use mathlib.Core.Bool.{Bool, true, false, _&&_, _||_, and-eq-true-iff, or-true, true≢false}
 use mathlib.Core.List.{List}
 use native.Mathlib.Decide.{ℕ-discrete}
 use native.Mathlib.Nat.{not-suc-le-zero}
@@ -10,16 +10,6 @@ use lib.Dec.{leb, ltb, eqb}
 use borrow.Author.Tests.{eqb-true, eq-eqb, leb-true, le-leb, ltb-true, lt-ltb}
 use Rattle.work_windows.specs.Book.{window-count, window-event, first-hour, end-hour, open-at}
 use Rattle.work_windows.specs.OutOfService.{out-among, out-of-service, Open-window}
-
--- a disjunction whose second part is false is its first
-pub or-false : (b : Bool) → b || false ≡ b
-or-false true = refl
-or-false false = refl
-
--- one whose second part is true is true
-pub or-true : (b : Bool) → b || true ≡ true
-or-true true = refl
-or-true false = refl
 
 module _ (book : List ℕ) (hour event : ℕ) where
   -- among no windows

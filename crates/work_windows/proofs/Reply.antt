@@ -4,7 +4,7 @@ use mathlib.Core.Path.{_≡_, refl, sym, ap, subst, _∙_}
 use mathlib.Core.List.{List, _++_}
 use native.Mathlib.Omega.{arith}
 use lib.ListN.{length, take, drop}
-use lib.Seq.{length-take-le, take-at}
+use lib.Seq.{length-take-le}
 use borrow.Author.Tests.{le-leb, lt-leb, leb-true}
 use Rattle.theory.specs.Unit.{billion}
 use Rattle.refusals.specs.FirstFault.{_or-else_, first-of}
@@ -33,7 +33,7 @@ use Rattle.work_windows.specs.Question.{lent-rules, hour-rules, written-
 use Rattle.work_windows.specs.Question.{buffer-left, hour-slices}
 use Rattle.work_windows.specs.Writing.{Writable}
 use Rattle.work_windows.proofs.BookJudged.{unfaulted-well-formed}
-use Rattle.work_windows.proofs.SheetWritten.{sheet-long}
+use Rattle.work_windows.proofs.SheetWritten.{sheet-front}
 
 -- What is lent, by what each part of its judging finds.
 module _ (E N held : ℕ) (book : List ℕ) (room : ℕ) (s : Slices) (found : FirstFault)
@@ -149,9 +149,7 @@ module _ (state : State) (tree-store sheet-store book : List ℕ) (k n hour : �
           -- its front is the sheet of the hour
           front-is : (after : List ℕ) → after ≡ written ++ drop (length sheet) buffer → held-sheet state after ≡ written
           front-is after w =
-              ap (take (state .«sheet_len»)) w
-              ∙ take-at written (drop (length sheet) buffer) (state .«sheet_len»)
-              (sheet-long sheet (writable .length-value) _ ∙ sheet-length)
+              ap (take (state .«sheet_len»)) w ∙ sheet-front sheet (writable .length-value) _ _ sheet-length _
 
           -- answered: what the question gives for the buffer
           pub answered-all : (after : List ℕ) → after ≡ written ++ drop (length sheet) buffer → (reply : Reply)

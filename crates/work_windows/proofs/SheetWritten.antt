@@ -1,14 +1,14 @@
 -- The sheet of an hour: what its bytes are, and how the windows, written one after the other, lead to it.
 use Prim.Native.Nat.{ℕ, zero, suc, _+_, _*_, _<_}
 use mathlib.Core.Path.{_≡_, refl, sym, ap, _∙_}
-use mathlib.Core.Bool.{Bool, true, false, cond}
+use mathlib.Core.Bool.{Bool, true, false, or-false}
 use mathlib.Core.List.{List, _++_, append-assoc}
 use native.Mathlib.Nat.{add-assoc, add-zero}
 use native.Mathlib.Omega.{arith}
 use lib.Dec.{lit<}
 use lib.ListN.{length, take, drop, length-append, List·getD-append}
 use lib.Seq.{length-take-le, take-length, take-add, take-append-add, drop-append-add, getD-append-add, getD-take}
-use lib.Seq.{getD-drop}
+use lib.Seq.{getD-drop, take-at}
 use Rattle.fields.specs.Fields.{byte, bytes32, field16, field32}
 use Rattle.fields.proofs.Alike.{field32-alike}
 use Rattle.fields.proofs.Written.{field32-bytes32}
@@ -19,9 +19,9 @@ use Rattle.work_windows.specs.OutOfService.{out-among}
 use Rattle.work_windows.specs.Sheet.{certain-entry, written-entry, written-entries, sheet-with}
 use Rattle.work_windows.specs.Sheet.{Written}
 use Rattle.work_windows.specs.Writing.{with-certain, window-written, windows-written}
-use Rattle.work_windows.proofs.OutOfService.{or-false, out-none, out-next}
-use Rattle.work_windows.proofs.EntriesWritten.{also, entries-alike, entries-held, entries-long, entry-byte}
-use Rattle.work_windows.proofs.EntriesWritten.{entry-replaced}
+use Rattle.work_windows.proofs.OutOfService.{out-none, out-next}
+use Rattle.work_windows.proofs.EntriesWritten.{also, entries-alike, entries-held, entry-by, entries-long}
+use Rattle.work_windows.proofs.EntriesWritten.{entry-byte, entry-replaced}
 
 -- past a front of so many bytes
 past-take : (front xs : List ℕ) (m n : ℕ) → length front ≡ m → take (m + n) (front ++ xs) ≡ front ++ take n xs
@@ -72,6 +72,11 @@ module _ (sheet : List ℕ) where
         length-append (take header-length sheet) (written-entries sheet out (event-count sheet))
         ∙ omega (arith, header-long, entries-long sheet formed out (event-count sheet) (omega arith))
 
+    -- it is the front of a buffer that it was written to
+    pub sheet-front : (out : ℕ → Bool) (n : ℕ) → length sheet ≡ n → (rest : List ℕ)
+        → take n (sheet-with sheet out ++ rest) ≡ sheet-with sheet out
+    sheet-front out n e rest = take-at (sheet-with sheet out) rest n (sheet-long out ∙ e)
+
     -- a byte of an event's entry
     sheet-byte : (out : ℕ → Bool) (e j : ℕ) → e < event-count sheet → j < 17
         → byte (sheet-with sheet out) (entry-at sheet e + j) ≡ byte (written-entry sheet out e) j
@@ -83,16 +88,12 @@ module _ (sheet : List ℕ) where
         ∙ entry-byte sheet formed out (event-count sheet) (omega arith) e j le lj
 
     module _ (out : ℕ → Bool) (e : ℕ) (le : e < event-count sheet) where
-      -- the entry, by whether its event is out of service
-      abbrev entry-by : Bool → List ℕ
-      entry-by b = cond b (certain-entry (unit sheet)) (take 17 (drop (entry-at sheet e) sheet))
-
       -- an event that is not out of service keeps its bytes
       kept-bytes : out e ≡ false → (j : ℕ) → j < 17
           → byte (sheet-with sheet out) (entry-at sheet e + j) ≡ byte sheet (entry-at sheet e + j)
       kept-bytes o j lj =
           sheet-byte out e j le lj
-          ∙ ap (λ (b : Bool). byte (entry-by b) j) o
+          ∙ ap (λ (b : Bool). byte (entry-by sheet e b) j) o
           ∙ getD-take 17 (drop (entry-at sheet e) sheet) j 0 lj
           ∙ getD-drop (entry-at sheet e) sheet j 0
 
@@ -102,7 +103,7 @@ module _ (sheet : List ℕ) where
             → byte (sheet-with sheet out) (entry-at sheet e + j) ≡ byte (certain-entry (unit sheet)) j
         certain-bytes j lj =
             sheet-byte out e j le lj
-            ∙ ap (λ (b : Bool). byte (entry-by b) j) o
+            ∙ ap (λ (b : Bool). byte (entry-by sheet e b) j) o
 
         -- so each of its numbers is U
         number-read : (d : ℕ) → d + 3 < 17 → field32 (certain-entry (unit sheet)) d ≡ unit sheet

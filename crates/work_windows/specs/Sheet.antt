@@ -33,8 +33,8 @@ sheet-with sheet out = take header-length sheet ++ written-entries sheet out (ev
 abbrev pub written-sheet : List ℕ → List ℕ → ℕ → List ℕ
 written-sheet sheet book hour = sheet-with sheet (out-of-service book hour)
 
--- What the bytes after are, of a sheet and of which events are out of service. `sheet-means` of proofs/SheetWritten:
--- this is what `sheet-with` leaves of an accepted sheet.
+-- What the bytes of a sheet are once each event that is out of service has its certain entry. Those of `sheet-with` are
+-- so, of every accepted sheet: `sheet-means` of proofs/SheetWritten.
 pub record Written (sheet : List ℕ) (out : ℕ → Bool) (after : List ℕ) : Type 0 where
   pub length-kept : length after ≡ length sheet
   -- the header is as held
