@@ -5,7 +5,7 @@ use mathlib.Core.List.{List}
 use native.Mathlib.Nat.{mul-le-mul-right}
 use native.Mathlib.Omega.{arith}
 use Rattle.theory.specs.Trapezoid.{Trapezoid, Rising}
-use Rattle.theory.specs.Opinion.{mean, spoken}
+use Rattle.theory.specs.Opinion.{mean, total-score}
 use Rattle.theory.proofs.MeanRising.{mean-rising}
 use Rattle.opinion_sheet.specs.Format.{event-count, expert-count, unit}
 use Rattle.opinion_sheet.specs.EntryRules.{entry-of, numerators}
@@ -19,7 +19,7 @@ use Rattle.opinion_sheet.specs.declared.fractions.Fractions.{Fractions}
 use Rattle.opinion_sheet.specs.declared.entry.Entry.{Entry}
 use Rattle.opinion_sheet.specs.declared.entry.Entry.the-variants as entry
 use Rattle.opinion_sheet.proofs.EntryLaws.{entry-numbers, entry-opinions, entry-fractions}
-use Rattle.opinion_sheet.proofs.MeanOfOpinions.{spoken-most, spoken-least}
+use Rattle.opinion_sheet.proofs.MeanOfOpinions.{total-most, total-least}
 
 -- Four fractions that rise to at most 1 can be cut, where their denominator leaves room.
 rising-cuttable : (U : ℕ) → 0 < U → (x : Trapezoid) → Rising x → x .den ≤ 1000000 → Cuttable U U x
@@ -47,14 +47,14 @@ pub fractions-cuttable : (U : ℕ) → 0 < U → (x : Fractions) (last : ℕ) �
     → Cuttable U U (fractions-trapezoid x)
 fractions-cuttable U units x last w = rising-cuttable U units _ (fractions-rising x last w) (w .den-most)
 
--- Somebody with a score spoke.
-pub opinions-spoken : (file : List ℕ) → WellFormedScores file → (terms : ℕ) → WellFormedOpinions file terms
-    → 1 ≤ spoken (opinions-among file terms (expert-count file))
-opinions-spoken file scores terms w =
+-- Somebody is listed, with a score.
+pub opinions-scored : (file : List ℕ) → WellFormedScores file → (terms : ℕ) → WellFormedOpinions file terms
+    → 1 ≤ total-score (opinions-among file terms (expert-count file))
+opinions-scored file scores terms w =
     let one = w .speaker in
     omega (
       arith,
-      spoken-least file terms (one .expert) (expert-count file) (one .listed) (one .spoke),
+      total-least file terms (one .expert) (expert-count file) (one .listed),
       scores .score-least (one .expert) (one .listed),
     )
 
@@ -62,13 +62,13 @@ module _ (file : List ℕ) (U : ℕ) (units : 0 < U) (scores : WellFormedScores 
   opinions-rising : (terms : ℕ) → WellFormedOpinions file terms
       → Rising (mean (opinions-among file terms (expert-count file)))
   opinions-rising terms w =
-      mean-rising (opinions-among file terms (expert-count file)) (opinions-spoken file scores terms w)
+      mean-rising (opinions-among file terms (expert-count file)) (opinions-scored file scores terms w)
 
   -- The mean of opinions can be cut.
   pub opinions-cuttable : expert-count file ≤ 16 → (terms : ℕ) → WellFormedOpinions file terms
       → Cuttable U U (mean (opinions-among file terms (expert-count file)))
   opinions-cuttable m terms w =
-      let most = spoken-most file terms 100 (expert-count file) (scores .score-most) in
+      let most = total-most file terms 100 (expert-count file) (scores .score-most) in
       rising-cuttable U units _ (opinions-rising terms w) (omega arith)
 
   entry-rising : (e : ℕ) → WellFormedEntry U file e → Rising (event-trapezoid U file e)

@@ -1,5 +1,5 @@
 -- The laws of this crate, in the order of the argument: each part judged, what acceptance means, what a refusal means,
--- the mean, the cut.
+-- the mean, the cut, and a term that is taken away.
 pub mod HeaderLaws
 pub mod ScoreLaws
 pub mod TermLaws
@@ -11,3 +11,4 @@ pub mod MeanOfOpinions
 pub mod EventRising
 pub mod CutBounds
 pub mod CutScaled
+pub mod TermWithdrawn

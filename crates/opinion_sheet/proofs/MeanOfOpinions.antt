@@ -1,26 +1,37 @@
 -- The sums of the code are those of the theory's mean over the opinions of the entry, and stay small.
 use Prim.Native.Nat.{ℕ, zero, suc, _+_, _-_, _*_, _≤_, _<_}
-use mathlib.Core.Path.{_≡_, refl, ap, sym, subst, _∙_}
+use mathlib.Core.Path.{_≡_, refl, ap, sym, _∙_}
 use mathlib.Core.List.{List, [], _∷_, _++_, map}
 use lib.ListN.{length, getD}
-use lib.Dec.{lit<}
 use native.Mathlib.Nat.{not-suc-le-zero, le-of-suc-le-suc}
 use native.Mathlib.Numerals.{add-one}
 use native.Mathlib.Decide.{decLt}
 use native.Mathlib.Omega.{arith}
 use borrow.Author.Tests.{eq-eqb, ne-eqb}
-use Rattle.theory.specs.Opinion.{Term, very-low, term-a, term-b, term-d, Opinion, says, silent, spoken, weighted}
-use Rattle.theory.proofs.MeanRising.{mean-rising}
+use Rattle.theory.specs.Trapezoid.{Trapezoid}
+use Rattle.theory.specs.Opinion.{Term, very-low, term-a, term-b, term-d, Opinion, score-of, opinion-numbers}
+use Rattle.theory.specs.Opinion.{total-score, weighted}
+use Rattle.theory.proofs.MeanRising.{total-append, weighted-append, weighted-at-most, opinion-rising}
 use Rattle.opinion_sheet.specs.Format.{score, term}
-use Rattle.opinion_sheet.specs.Opinion.{terms-in-order, term-of, opinion-of, opinions-among}
-use Rattle.opinion_sheet.specs.Mean.{with-opinion}
+use Rattle.opinion_sheet.specs.Opinion.{terms-in-order, opinion-of, opinions-among}
+use Rattle.opinion_sheet.specs.Mean.{row-numbers, with-opinion}
 use Rattle.opinion_sheet.specs.Requirements.{SumsRoom}
 use Rattle.opinion_sheet.specs.declared.mean.Sums.{Sums}
 
 -- The sums that the theory's mean of opinions is made of.
 abbrev pub sums-of : List Opinion → Sums
 sums-of os =
-    record { scores = spoken os; low = weighted term-a os; likely = weighted term-b os; high = weighted term-d os }
+    record {
+      scores = total-score os;
+      a = weighted (λ z. z .a) os;
+      b = weighted (λ z. z .b) os;
+      c = weighted (λ z. z .c) os;
+      d = weighted (λ z. z .d) os;
+    }
+
+-- Four numbers as the code lists them.
+abbrev pub in-order : Trapezoid → List ℕ
+in-order z = z .a ∷ z .b ∷ z .c ∷ z .d ∷ []
 
 -- A term's numbers in hundredths, a, b = c, d; the table has a row for each term.
 abbrev term-row : Term → List ℕ
@@ -29,105 +40,86 @@ term-row t = term-a t ∷ term-b t ∷ term-d t ∷ []
 abbrev pub term-rows : List (List ℕ)
 term-rows = map term-row terms-in-order
 
--- The scores of those who spoke in one list and then in another add up.
-spoken-append : (os ps : List Opinion) → spoken (os ++ ps) ≡ spoken os + spoken ps
-spoken-append [] ps = omega arith
-spoken-append (says given t ∷ os) ps = omega (arith, spoken-append os ps)
-spoken-append (silent given ∷ os) ps = spoken-append os ps
-
--- The weighted numbers of their terms add up.
-weighted-append : (f : Term → ℕ) (os ps : List Opinion) → weighted f (os ++ ps) ≡ weighted f os + weighted f ps
-weighted-append f [] ps = omega arith
-weighted-append f (says given t ∷ os) ps = omega (arith, weighted-append f os ps)
-weighted-append f (silent given ∷ os) ps = weighted-append f os ps
-
--- The sums with one opinion more at the end, and with a silent expert more.
-sums-said : (os : List Opinion) (given : ℕ) (t : Term)
-    → with-opinion (sums-of os) (term-row t) given ≡ sums-of (os ++ (says given t ∷ []))
-sums-said os given t =
-    let added : (f : Term → ℕ) → weighted f os + given * f t ≡ weighted f (os ++ (says given t ∷ [])) =
-    λ f. omega (arith, weighted-append f os (says given t ∷ [])) in
-    let scores : spoken os + given ≡ spoken (os ++ (says given t ∷ [])) =
-    omega (arith, spoken-append os (says given t ∷ [])) in
-    λ i. record { scores = scores i; low = added term-a i; likely = added term-b i; high = added term-d i }
-
-sums-silent : (os : List Opinion) (given : ℕ) → sums-of os ≡ sums-of (os ++ (silent given ∷ []))
-sums-silent os given =
-    let same : (f : Term → ℕ) → weighted f os ≡ weighted f (os ++ (silent given ∷ [])) =
-    λ f. omega (arith, weighted-append f os (silent given ∷ [])) in
-    let scores : spoken os ≡ spoken (os ++ (silent given ∷ [])) = omega (arith, spoken-append os (silent given ∷ [])) in
-    λ i. record { scores = scores i; low = same term-a i; likely = same term-b i; high = same term-d i }
+-- The sums with one opinion more at the end.
+sums-with : (os : List Opinion) (o : Opinion)
+    → with-opinion (sums-of os) (in-order (opinion-numbers o)) (score-of o) ≡ sums-of (os ++ (o ∷ []))
+sums-with os o =
+    let added : (f : Trapezoid → ℕ) → weighted f os + score-of o * f (opinion-numbers o) ≡ weighted f (os ++ (o ∷ [])) =
+    λ f. omega (arith, weighted-append f os (o ∷ [])) in
+    let scores : total-score os + score-of o ≡ total-score (os ++ (o ∷ [])) = omega (arith, total-append os (o ∷ [])) in
+    λ i. record {
+      scores = scores i;
+      a = added (λ z. z .a) i;
+      b = added (λ z. z .b) i;
+      c = added (λ z. z .c) i;
+      d = added (λ z. z .d) i;
+    }
 
 row-at : (ts : List Term) (i : ℕ) → i < length ts → getD (map term-row ts) i [] ≡ term-row (getD ts i very-low)
 row-at [] i l = absurd (not-suc-le-zero l)
 row-at (t ∷ ts) zero l = refl
 row-at (t ∷ ts) (suc i) l = row-at ts i (le-of-suc-le-suc l)
 
--- The row of the table at a term code is that of the term.
-row-of-code : (code : ℕ) → code ≤ 7 → (code ≡ 0 → ⊥) → getD term-rows (code - 1) [] ≡ term-row (term-of code)
-row-of-code code h ne = row-at terms-in-order (code - 1) (omega (arith, ne))
-
--- The values of a term are at most 100.
-row-bounded : (t : Term) → (term-a t ≤ 100) × (term-b t ≤ 100) × (term-d t ≤ 100)
-row-bounded t =
-    let rising = mean-rising (says 1 t ∷ []) (lit< tt) in
-    (omega arith, omega arith, omega arith)
-
--- The sums of opinions are at most 100 × the scores, give or take one opinion.
-sums-bounded : (os : List Opinion) → spoken os ≤ 4080
-    → (weighted term-a os ≤ 1000000) × (weighted term-b os ≤ 1000000) × (weighted term-d os ≤ 1000000)
-sums-bounded os h =
-    let rising = mean-rising (says 1 very-low ∷ os) (omega arith) in
-    (omega arith, omega arith, omega arith)
-
--- An opinion counts its score at most.
-opinion-most : (given code : ℕ) → spoken (opinion-of given code ∷ []) ≤ given
-opinion-most given code = go (decLt 0 code)
+-- An opinion counts with its expert's score, whatever the term code, and has the numbers of silence or of its row.
+opinion-score : (given code : ℕ) → score-of (opinion-of given code) ≡ given
+opinion-score given code = go (decLt 0 code)
   where
-    go : Dec (0 < code) → spoken (opinion-of given code ∷ []) ≤ given
-    go (yes l) = rw (ne-eqb code 0 (λ e. omega arith)) (omega arith)
-    go (no l) =
-        let none : code ≡ 0 = omega arith in
-        rw (eq-eqb code 0 none) (omega arith)
+    go : Dec (0 < code) → score-of (opinion-of given code) ≡ given
+    go (yes l) = rw (ne-eqb code 0 (λ e. omega arith))
+    go (no l) = rw (eq-eqb code 0 (omega arith))
+
+pub silence-numbers : (given code : ℕ) → code ≡ 0
+    → 0 ∷ 0 ∷ 100 ∷ 100 ∷ [] ≡ in-order (opinion-numbers (opinion-of given code))
+silence-numbers given code e = rw (eq-eqb code 0 e)
+
+pub term-numbers : (given code : ℕ) → (code ≡ 0 → ⊥) → code ≤ 7
+    → row-numbers (getD term-rows (code - 1) []) ≡ in-order (opinion-numbers (opinion-of given code))
+term-numbers given code ne h =
+    rw (ne-eqb code 0 ne) (ap row-numbers (row-at terms-in-order (code - 1) (omega (arith, ne))))
+
+-- The numbers of an opinion are at most 100, and the sums of opinions at most 100 × the scores.
+numbers-most : (o : Opinion)
+    → let z = opinion-numbers o in
+    (z .a ≤ 100) × (z .b ≤ 100) × (z .c ≤ 100) × (z .d ≤ 100)
+numbers-most o =
+    let rising = opinion-rising o in
+    (omega arith, omega arith, omega arith, omega arith)
+
+sum-most : (f : Trapezoid → ℕ) → ((o : Opinion) → f (opinion-numbers o) ≤ 100) → (os : List Opinion)
+    → total-score os ≤ 4080 → weighted f os ≤ 1000000
+sum-most f h os l = omega (arith, weighted-at-most f 100 h os)
 
 module _ (file : List ℕ) (terms : ℕ) where
-  -- The scores of those who spoke are at most those of all.
-  pub spoken-most : (most n : ℕ) → ((i : ℕ) → i < n → score file i ≤ most)
-      → spoken (opinions-among file terms n) ≤ most * n
+  -- The scores with one expert more.
+  total-more : (n : ℕ)
+      → total-score (opinions-among file terms (suc n)) ≡ total-score (opinions-among file terms n) + score file n
   unfolding opinions-among
-  spoken-most most zero h = omega arith
-  spoken-most most (suc n) h =
+  total-more n =
       omega (
         arith,
-        spoken-append (opinions-among file terms n) (opinion-of (score file n) (term file terms n) ∷ []),
-        opinion-most (score file n) (term file terms n),
-        spoken-most most n (λ i l. h i (omega arith)),
-        h n (omega arith),
+        total-append (opinions-among file terms n) (opinion-of (score file n) (term file terms n) ∷ []),
+        opinion-score (score file n) (term file terms n),
       )
 
-  -- Whoever spoke counts.
-  pub spoken-least : (i n : ℕ) → i < n → 1 ≤ term file terms i → score file i ≤ spoken (opinions-among file terms n)
+  -- The scores are at most so many times the highest.
+  pub total-most : (most n : ℕ) → ((i : ℕ) → i < n → score file i ≤ most)
+      → total-score (opinions-among file terms n) ≤ most * n
   unfolding opinions-among
-  spoken-least i zero l s = absurd (not-suc-le-zero l)
-  spoken-least i (suc n) l s = go (λ k. spoken-least i n k s) (decLt i n)
+  total-most most zero h = omega arith
+  total-most most (suc n) h =
+      omega (arith, total-more n, total-most most n (λ i l. h i (omega arith)), h n (omega arith))
+
+  -- Whoever is listed counts.
+  pub total-least : (i n : ℕ) → i < n → score file i ≤ total-score (opinions-among file terms n)
+  total-least i zero l = absurd (not-suc-le-zero l)
+  total-least i (suc n) l = go (total-least i n) (decLt i n)
     where
-      go : (i < n → score file i ≤ spoken (opinions-among file terms n)) → Dec (i < n)
-          → score file i ≤ spoken (opinions-among file terms n ++ (opinion-of (score file n) (term file terms n) ∷ []))
-      go earlier (yes k) =
-          omega (
-            arith,
-            earlier k,
-            spoken-append (opinions-among file terms n) (opinion-of (score file n) (term file terms n) ∷ []),
-          )
+      go : (i < n → score file i ≤ total-score (opinions-among file terms n)) → Dec (i < n)
+          → score file i ≤ total-score (opinions-among file terms (suc n))
+      go earlier (yes k) = omega (arith, earlier k, total-more n)
       go earlier (no k) =
           let here : i ≡ n = omega arith in
-          let spoke : 1 ≤ term file terms n = subst (λ (j : ℕ). 1 ≤ term file terms j) here s in
-          rw (ne-eqb (term file terms n) 0 (λ e. omega arith))
-          (omega (
-            arith,
-            ap (score file) here,
-            spoken-append (opinions-among file terms n) (says (score file n) (term-of (term file terms n)) ∷ []),
-          ))
+          omega (arith, ap (score file) here, total-more n)
 
 -- A loop over n experts has the sums over the first i.
 pub record Summed (file : List ℕ) (terms n i : ℕ) (sums : Sums) : Type 0 where
@@ -135,50 +127,44 @@ pub record Summed (file : List ℕ) (terms n i : ℕ) (sums : Sums) : Type 0 whe
   pub summed : sums ≡ sums-of (opinions-among file terms i)
 
 module _ (file : List ℕ) (terms n : ℕ) where
-  pub summed-none : Summed file terms n 0 (record { scores = 0; low = 0; likely = 0; high = 0 })
+  pub summed-none : Summed file terms n 0 (record { scores = 0; a = 0; b = 0; c = 0; d = 0 })
   unfolding opinions-among
   summed-none = record { within = omega arith; summed = refl }
 
-  module _ {i : ℕ} {sums : Sums} (before : Summed file terms n i sums) (l : i < n) (code : ℕ)
-      (read : code ≡ term file terms i) where
-    pub summed-silent : code ≡ 0 → Summed file terms n (i + 1) sums
+  module _ {i : ℕ} {sums : Sums} (before : Summed file terms n i sums) (l : i < n) (own code : ℕ) (numbers : List ℕ)
+      (said : numbers ≡ in-order (opinion-numbers (opinion-of own code))) where
+    pub summed-more : own ≡ score file i → code ≡ term file terms i → (after : Sums)
+        → after ≡ with-opinion sums numbers own → Summed file terms n (i + 1) after
     unfolding opinions-among
-    summed-silent e =
+    summed-more g read after a =
+        let opinion = opinion-of (score file i) (term file terms i) in
+        let counted : score file i ≡ score-of opinion = sym (opinion-score (score file i) (term file terms i)) in
         record {
           within = omega arith;
           summed =
-              rw (add-one i, eq-eqb (term file terms i) 0 (sym read ∙ e))
-              (before .summed ∙ sums-silent (opinions-among file terms i) (score file i));
-        }
-
-    pub summed-said : (code ≡ 0 → ⊥) → code ≤ 7 → (given : ℕ) → given ≡ score file i → (after : Sums)
-        → after ≡ with-opinion sums (getD term-rows (code - 1) []) given → Summed file terms n (i + 1) after
-    unfolding opinions-among
-    summed-said ne h given g after a =
-        record {
-          within = omega arith;
-          summed =
-              rw (add-one i, ne-eqb (term file terms i) 0 (λ e. ne (read ∙ e)))
+              rw (add-one i)
               (a
-              ∙ rw (before .summed, row-of-code code h ne, g, read)
-              (sums-said (opinions-among file terms i) (score file i) (term-of (term file terms i))));
+              ∙ rw (before .summed, said, g, read)
+              (ap (with-opinion (sums-of (opinions-among file terms i)) (in-order (opinion-numbers opinion))) counted
+              ∙ sums-with (opinions-among file terms i) opinion));
         }
 
     -- Bytes score at most 255, so the sums stay small.
-    pub summed-room : n ≤ 16 → ((j : ℕ) → score file j < 256) → (code ≡ 0 → ⊥) → code ≤ 7 → (given : ℕ) → given < 256
-        → SumsRoom sums (getD term-rows (code - 1) []) given
-    summed-room m bytes ne h given g =
-        let scores = spoken-most file terms 255 i (λ j k. omega (arith, bytes j)) in
-        let small = sums-bounded (opinions-among file terms i) (omega arith) in
-        let row = row-bounded (term-of code) in
-        rw (before .summed, row-of-code code h ne)
+    pub summed-room : n ≤ 16 → ((j : ℕ) → score file j < 256) → (given : ℕ) → given < 256 → SumsRoom sums numbers given
+    summed-room m bytes given byte =
+        let scores = total-most file terms 255 i (λ j k. omega (arith, bytes j)) in
+        let os = opinions-among file terms i in
+        let most = numbers-most (opinion-of own code) in
+        rw (before .summed, said)
         (record {
           scores-room = omega arith;
-          low-room = small .0;
-          likely-room = small .1;
-          high-room = small .2;
-          low-value = row .0;
-          likely-value = row .1;
-          high-value = row .2;
+          a-room = sum-most (λ z. z .a) (λ o. numbers-most o .0) os (omega arith);
+          b-room = sum-most (λ z. z .b) (λ o. numbers-most o .1) os (omega arith);
+          c-room = sum-most (λ z. z .c) (λ o. numbers-most o .2) os (omega arith);
+          d-room = sum-most (λ z. z .d) (λ o. numbers-most o .3) os (omega arith);
+          a-value = most .0;
+          b-value = most .1;
+          c-value = most .2;
+          d-value = most .3;
           score-room = omega arith;
         })

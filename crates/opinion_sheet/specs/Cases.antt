@@ -1,6 +1,6 @@
 -- Cases computed by the prover: the smallest accepted sheet; for each refusal the smallest sheet that causes it, with
--- number and place; the limits; two faults in one sheet; document 01's P5 and P9 to P12; each of the seven terms; and
--- failures over starts.
+-- number and place; the limits; two faults in one sheet; document 01's P5 and P9 to P12; each of the seven terms;
+-- silence; and failures over starts.
 use Prim.Native.Nat.{ℕ}
 use mathlib.Core.Path.{_≡_, refl}
 use mathlib.Core.List.{List, [], _∷_, _++_, map}
@@ -62,9 +62,13 @@ p5 = header 1 0 (zeros 16) ++ (zeros 5 ++ (1 ∷ zeros 3) ++ (1 ∷ zeros 3) ++ 
 abbrev p9 : List ℕ
 p9 = header 1 2 (2 ∷ 1 ∷ zeros 14) ++ (1 ∷ 2 ∷ 3 ∷ zeros 14)
 
--- The same two experts, the second silent: the mean is the first one's term, Low.
+-- The same two experts, the second silent, who counts with his score.
 abbrev silent : List ℕ
 silent = header 1 2 (2 ∷ 1 ∷ zeros 14) ++ (1 ∷ 2 ∷ zeros 15)
+
+-- Sixteen experts, all silent but the last, whose score of 1 stands beside fifteen of 100.
+abbrev nearly-all-silent : List ℕ
+nearly-all-silent = header 1 16 (replicate 15 100 ++ 1 ∷ []) ++ (1 ∷ zeros 15 ++ 7 ∷ [])
 
 -- P11 and P12: six experts of source document 000.
 abbrev p11 : List ℕ
@@ -124,9 +128,10 @@ cases =
     record { file = header 1 0 (zeros 16) ++ zero-entry; expected = accepted 7 1 0 }
     ∷ record { file = header 1 0 (zeros 16) ++ largest; expected = accepted 7 1 0 }
     ∷ record { file = header-with 7 1 1 0 0 (zeros 16) ++ zero-entry; expected = accepted 263 1 0 }
-    -- opinions: P9's sheet, an expert who said nothing, P11's, and the highest term
+    -- opinions: P9's sheet, an expert who said nothing, all but one who did, P11's, and the highest term
     ∷ record { file = p9; expected = accepted 7 1 2 }
     ∷ record { file = silent; expected = accepted 7 1 2 }
+    ∷ record { file = nearly-all-silent; expected = accepted 7 1 16 }
     ∷ record { file = p11; expected = accepted 7 1 6 }
     ∷ record { file = one-term 7; expected = accepted 7 1 1 }
     -- sixteen experts with the highest score, all of whom spoke
@@ -235,7 +240,6 @@ cut-cases =
     ∷ record { file = p5; k = 2; n = 2; expected = between 1 true 1 true }
     ∷ record { file = p9; k = 2; n = 2; expected = between 176666666 false 176666667 false }
     ∷ record { file = p9; k = 0; n = 2; expected = between 103333333 false 250000000 true }
-    ∷ record { file = silent; k = 0; n = 2; expected = between 70000000 true 190000000 true }
     ∷ record { file = p11; k = 0; n = 2; expected = between 624838709 false 818387097 false }
     ∷ record { file = p11; k = 2; n = 2; expected = between 723548387 false 723548388 false }
     ∷ []
@@ -259,6 +263,17 @@ term-cases =
     ∷ record { file = one-term 7; k = 2; n = 2; expected = between 960000000 true 960000000 true }
     ∷ []
 
+-- Silence counts as (0, 0, 100, 100) hundredths with its score. Low with a score of 2 and silence with 1 have the sums
+-- 14, 26, 126 and 138 over 300; Very High with 1 and silence with 1,500 have 92, 96, 150,096 and 150,100 over 150,100.
+abbrev silence-cases : List CutCase
+silence-cases =
+    record { file = silent; k = 0; n = 2; expected = between 46666666 false 460000000 true }
+    ∷ record { file = silent; k = 1; n = 2; expected = between 66666666 false 440000000 true }
+    ∷ record { file = silent; k = 2; n = 2; expected = between 86666666 false 420000000 true }
+    ∷ record { file = nearly-all-silent; k = 0; n = 2; expected = between 612924 false 1000000000 true }
+    ∷ record { file = nearly-all-silent; k = 2; n = 2; expected = between 639573 false 999973352 false }
+    ∷ []
+
 -- Failures over starts: 3 of 1,250 and 1 of 1,000,000 are whole units, 1 of 3 is not; at half the level the cut of 0, 1
 -- and 2 of 3 goes from a sixth to a half, divided once; all of 1,000,000 is 1.
 abbrev fraction-cases : List CutCase
@@ -273,8 +288,11 @@ fraction-cases =
     ∷ record { file = alone all-failed; k = 0; n = 1000; expected = between 1000000000 true 1000000000 true }
     ∷ []
 
+abbrev all-cut-cases : List CutCase
+all-cut-cases = cut-cases ++ term-cases ++ silence-cases ++ fraction-cases
+
 -- Each cut is the one given.
-pub cuts : map (λ (c : CutCase). cut-at billion (c .file) 0 (c .k) (c .n)) (cut-cases ++ term-cases ++ fraction-cases)
-    ≡ map (λ (c : CutCase). c .expected) (cut-cases ++ term-cases ++ fraction-cases)
+pub cuts : map (λ (c : CutCase). cut-at billion (c .file) 0 (c .k) (c .n)) all-cut-cases
+    ≡ map (λ (c : CutCase). c .expected) all-cut-cases
 unfolding opinions-among field16 field24 field32 cut cut-end rounded nothing-dropped
 cuts = refl

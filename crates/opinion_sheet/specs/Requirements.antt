@@ -4,7 +4,7 @@ use Prim.Native.Nat.{ℕ, _+_, _*_, _≤_, _<_}
 use mathlib.Core.List.{List}
 use lib.ListN.{length, getD}
 use Rattle.theory.specs.Trapezoid.{Trapezoid}
-use Rattle.theory.specs.Opinion.{spoken}
+use Rattle.theory.specs.Opinion.{total-score}
 use Rattle.opinion_sheet.specs.Format.{header-length, entry-length, expert-count, expert-places, term, max-term}
 use Rattle.opinion_sheet.specs.Opinion.{opinions-among}
 use Rattle.opinion_sheet.specs.declared.mean.Sums.{Sums}
@@ -15,23 +15,25 @@ pub record EntryInside (file : List ℕ) (at : ℕ) : Type 0 where
   pub entry-inside : at + entry-length file ≤ length file
 
 -- The scores and the terms of the listed experts lie inside the file, each term is a row of the table or 0, and
--- somebody with a score spoke.
+-- there is a score.
 pub record OpinionsInside (file : List ℕ) (terms : ℕ) : Type 0 where
   pub header-inside : header-length ≤ length file
   pub experts-most : expert-count file ≤ expert-places
   pub terms-inside : terms + expert-places ≤ length file
   pub term-most : (i : ℕ) → i < expert-count file → term file terms i ≤ max-term
-  pub spoken-least : 1 ≤ spoken (opinions-among file terms (expert-count file))
+  pub score-least : 1 ≤ total-score (opinions-among file terms (expert-count file))
 
--- The sums leave room in 32 bits for one opinion more, whose term has values of at most 100.
-pub record SumsRoom (sums : Sums) (row : List ℕ) (given : ℕ) : Type 0 where
+-- The sums leave room in 32 bits for one opinion more, whose numbers are at most 100.
+pub record SumsRoom (sums : Sums) (numbers : List ℕ) (given : ℕ) : Type 0 where
   pub scores-room : sums .scores ≤ 1_000_000
-  pub low-room : sums .low ≤ 1_000_000
-  pub likely-room : sums .likely ≤ 1_000_000
-  pub high-room : sums .high ≤ 1_000_000
-  pub low-value : getD row 0 0 ≤ 100
-  pub likely-value : getD row 1 0 ≤ 100
-  pub high-value : getD row 2 0 ≤ 100
+  pub a-room : sums .a ≤ 1_000_000
+  pub b-room : sums .b ≤ 1_000_000
+  pub c-room : sums .c ≤ 1_000_000
+  pub d-room : sums .d ≤ 1_000_000
+  pub a-value : getD numbers 0 0 ≤ 100
+  pub b-value : getD numbers 1 0 ≤ 100
+  pub c-value : getD numbers 2 0 ≤ 100
+  pub d-value : getD numbers 3 0 ≤ 100
   pub score-room : given ≤ 255
 
 -- Numerators rise to at most U when counted in so many units to 1, over a denominator small enough for 64 bits.

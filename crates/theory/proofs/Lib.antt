@@ -21,6 +21,8 @@ pub mod UnreliabilityRises
 pub mod CutIsBottomUp
 pub mod CutOrdered
 pub mod MeanRising
+pub mod CutWider
+pub mod SilenceWidens
 -- Demand 3: the rounded ends.
 pub mod Gap
 pub mod GapProduct

@@ -16,6 +16,13 @@ pub record Inside (x : Interval) (p : Fraction) : Type 0 where
   pub above : x .lower ≼ p
   pub below : p ≼ x .upper
 
+-- y is wider than x: it has every fraction that x has, and another
+pub record Wider (y x : Interval) : Type 0 where
+  pub contains : (p : Fraction) → Inside x p → Inside y p
+  pub added : Fraction
+  pub added-inside : Inside y added
+  pub added-outside : Inside x added → ⊥
+
 -- from v to w units of which U make 1
 abbrev pub units-interval : ℕ → ℕ → ℕ → Interval
 units-interval U v w = record { lower = in-units U v; upper = in-units U w }

@@ -39,24 +39,33 @@ pub data Opinion : Type 0 where
   says : ℕ → Term → Opinion
   silent : ℕ → Opinion
 
--- the sum of the scores of those who spoke
-abbrev pub spoken : List Opinion → ℕ
-spoken [] = 0
-spoken (says score t ∷ os) = score + spoken os
-spoken (silent score ∷ os) = spoken os
+-- the score with which an opinion counts; silence counts too
+abbrev pub score-of : Opinion → ℕ
+score-of (says score t) = score
+score-of (silent score) = score
 
--- the sum over those who spoke of score times a number of their term
-abbrev pub weighted : (Term → ℕ) → List Opinion → ℕ
-weighted f [] = 0
-weighted f (says score t ∷ os) = score * f t + weighted f os
-weighted f (silent score ∷ os) = weighted f os
+-- an opinion's four numbers, in hundredths: those of its term; silence is no agreement, and leaves all from 0 to 1
+-- fully possible (02, request 5)
+abbrev pub opinion-numbers : Opinion → Trapezoid
+opinion-numbers (says score t) = record { den = 100; a = term-a t; b = term-b t; c = term-b t; d = term-d t }
+opinion-numbers (silent score) = record { den = 100; a = 0; b = 0; c = 100; d = 100 }
 
--- the means over those who spoke: hundredths, so the denominator is 100 times the scores
+-- the sum of all scores
+abbrev pub total-score : List Opinion → ℕ
+total-score [] = 0
+total-score (o ∷ os) = score-of o + total-score os
+
+-- the sum over all of score times one of the opinion's numbers
+abbrev pub weighted : (Trapezoid → ℕ) → List Opinion → ℕ
+weighted number [] = 0
+weighted number (o ∷ os) = score-of o * number (opinion-numbers o) + weighted number os
+
+-- the means over all: hundredths, so the denominator is 100 times the scores
 abbrev pub mean : List Opinion → Trapezoid
 mean os = record {
-  den = 100 * spoken os;
-  a = weighted term-a os;
-  b = weighted term-b os;
-  c = weighted term-b os;
-  d = weighted term-d os;
+  den = 100 * total-score os;
+  a = weighted (λ z. z .a) os;
+  b = weighted (λ z. z .b) os;
+  c = weighted (λ z. z .c) os;
+  d = weighted (λ z. z .d) os;
 }

@@ -15,7 +15,7 @@ use Rattle.opinion_sheet.specs.Requirements.{Cuttable}
 use Rattle.opinion_sheet.specs.declared.entry.Entry.{Entry}
 use Rattle.opinion_sheet.specs.declared.entry.Entry.the-variants as entry
 use Rattle.opinion_sheet.proofs.EntryLaws.{entry-numbers, entry-opinions, entry-fractions}
-use Rattle.opinion_sheet.proofs.EventRising.{opinions-spoken, opinions-cuttable, fractions-cuttable}
+use Rattle.opinion_sheet.proofs.EventRising.{opinions-scored, opinions-cuttable, fractions-cuttable}
 use Rattle.opinion_sheet.proofs.cut.cut_at.Statement.{statement}
 use Rattle.opinion_sheet.proofs.cut.cut_at.Tie as tie
 
@@ -76,7 +76,7 @@ mean-of-requires c κs =
       experts-most = header .experts-most;
       terms-inside = omega (arith, header .length-value, opinions c .0);
       term-most = opinions c .1 .term-most;
-      spoken-least = opinions-spoken _ (start .pre .0 .scores) _ (opinions c .1);
+      score-least = opinions-scored _ (start .pre .0 .scores) _ (opinions c .1);
     }
 
 cut-of-requires : tie.Need-cut-of-requires

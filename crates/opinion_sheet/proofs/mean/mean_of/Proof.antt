@@ -2,15 +2,18 @@
 use Prim.Native.Nat.{ℕ, _+_, _-_, _≤_, _<_}
 use mathlib.Core.Path.{_≡_, _∙_, ap}
 use mathlib.Core.Logic.{⊎-elim}
+use mathlib.Core.List.{List}
 use denote.Ref.{now}
 use borrow.Author.Needs.{needs}
 use native.Mathlib.Omega.{arith}
+use Rattle.theory.specs.Opinion.{opinion-numbers}
 use Rattle.opinion_sheet.specs.Format.{expert-count}
-use Rattle.opinion_sheet.specs.Opinion.{opinions-among}
-use Rattle.opinion_sheet.specs.Mean.{mean-by}
+use Rattle.opinion_sheet.specs.Opinion.{opinion-of, opinions-among}
+use Rattle.opinion_sheet.specs.Mean.{with-opinion, mean-by}
+use Rattle.opinion_sheet.specs.Requirements.{SumsRoom}
 use Rattle.opinion_sheet.specs.declared.mean.Sums.{Sums}
-use Rattle.opinion_sheet.proofs.MeanOfOpinions.{sums-of, Summed, summed-none, summed-silent, summed-said}
-use Rattle.opinion_sheet.proofs.MeanOfOpinions.{summed-room}
+use Rattle.opinion_sheet.proofs.MeanOfOpinions.{sums-of, in-order, silence-numbers, term-numbers, Summed}
+use Rattle.opinion_sheet.proofs.MeanOfOpinions.{summed-none, summed-more, summed-room}
 use Rattle.opinion_sheet.proofs.mean.mean_of.Statement.{statement}
 use Rattle.opinion_sheet.proofs.mean.mean_of.Tie as tie
 
@@ -27,6 +30,30 @@ term-most c =
     let listed : head .loop .expert < expert-count (now (start .args .file)) =
     omega (arith, head .before .expert-count .ensures .0) in
     omega (arith, start .pre .term-most (head .loop .expert) listed, c .byte-at .ensures .0)
+
+-- The numbers are those of the opinion that was read.
+abbrev Said : tie.After-byte-at2 Inv-loop μ-loop → List ℕ → Type 0
+Said c numbers = numbers ≡ in-order (opinion-numbers (opinion-of (c .byte-at2 .result) (c .before .byte-at .result)))
+
+-- The sums have room for it, with whatever byte as its score.
+room : (c : tie.After-byte-at2 Inv-loop μ-loop) (numbers : List ℕ) → Said c numbers → (given : ℕ) → given < 256
+    → SumsRoom (c .before .before .before .loop .sums) numbers given
+room c numbers said given byte =
+    let head = c .before .before .before in
+    summed-room _ _ _ (head .loop .inv) (omega arith) (c .byte-at2 .result) (c .before .byte-at .result) numbers said
+    (omega (arith, head .before .expert-count .ensures .0))
+    (λ j. omega (arith, head .before .before .shared-slice-known .given (10 + j))) given byte
+
+-- With it they are those over one expert more.
+more : (c : tie.After-byte-at2 Inv-loop μ-loop) (numbers : List ℕ) → Said c numbers → (after : Sums)
+    → let head = c .before .before .before in
+    let start = head .before .before .before in
+    after ≡ with-opinion (head .loop .sums) numbers (c .byte-at2 .result)
+    → Summed (now (start .args .file)) (start .args .terms) (head .before .expert-count .result)
+    (head .loop .expert + 1) after
+more c numbers said after h =
+    summed-more _ _ _ (c .before .before .before .loop .inv) (omega arith) _ _ numbers said (c .byte-at2 .ensures .0)
+    (c .before .byte-at .ensures .0) after h
 
 expert-count-requires : tie.Need-expert-count-requires Inv-loop μ-loop
 expert-count-requires c κs = search needs
@@ -46,26 +73,31 @@ add-byte-at-2 c = omega arith
 byte-at-requires-2 : tie.Need-byte-at-requires-2 Inv-loop μ-loop
 byte-at-requires-2 c κs = omega arith
 
-sub-with-opinion : tie.Need-sub-with-opinion Inv-loop μ-loop
-sub-with-opinion c = omega arith
-
-mul-with-opinion : tie.Need-mul-with-opinion Inv-loop μ-loop
-mul-with-opinion c = omega arith
-
-array-copy-out-with-opinion : tie.Need-array-copy-out-with-opinion Inv-loop μ-loop
-array-copy-out-with-opinion c = omega (arith, term-most (c .before .before))
-
-cast-with-opinion : tie.Need-cast-with-opinion Inv-loop μ-loop
-cast-with-opinion c = search needs
+cast-score : tie.Need-cast-score Inv-loop μ-loop
+cast-score c = search needs
 
 with-opinion-requires : tie.Need-with-opinion-requires Inv-loop μ-loop
 with-opinion-requires c κs =
-    let read = c .before .before .before in
-    let start = read .before .before .before .before .before in
-    summed-room _ _ _ (read .before .before .loop .inv) (omega arith) _ (read .byte-at .ensures .0)
-    (omega (arith, read .before .before .before .expert-count .ensures .0))
-    (λ j. omega (arith, read .before .before .before .before .shared-slice-known .given (10 + j)))
-    (c .before .before .if1 .taken) (term-most read) _ (c .before .byte-at2 .ensures .1)
+    room (c .before) _ (silence-numbers _ _ (c .if1 .taken)) _ (omega (arith, c .before .byte-at2 .ensures .1))
+
+sub-row-numbers : tie.Need-sub-row-numbers Inv-loop μ-loop
+sub-row-numbers c = omega arith
+
+mul-row-numbers : tie.Need-mul-row-numbers Inv-loop μ-loop
+mul-row-numbers c = omega arith
+
+array-copy-out-row-numbers : tie.Need-array-copy-out-row-numbers Inv-loop μ-loop
+array-copy-out-row-numbers c = omega (arith, term-most (c .before .before))
+
+row-numbers-requires : tie.Need-row-numbers-requires Inv-loop μ-loop
+row-numbers-requires c κs = search needs
+
+with-opinion-requires-2 : tie.Need-with-opinion-requires-2 Inv-loop μ-loop
+with-opinion-requires-2 c κs =
+    let term = c .before .before in
+    room (term .before) _
+    (c .row-numbers .ensures ∙ term-numbers _ _ (term .if1 .left) (term-most (term .before .before))) _
+    (omega (arith, term .before .byte-at2 .ensures .1))
 
 add-expert : tie.Need-add-expert Inv-loop μ-loop
 add-expert c = omega arith
@@ -75,14 +107,11 @@ loop-less c = omega arith
 
 loop-again : tie.Need-loop-again Inv-loop μ-loop
 loop-again c =
-    let read = c .before in
-    let inv = read .before .before .loop .inv in
-    let term = read .byte-at .ensures .0 in
-    ⊎-elim
+    ⊎-elim (λ w. rw (w .2) (more (c .before) _ (silence-numbers _ _ (w .0 .taken)) _ (w .1 .ensures)))
     (λ w.
     rw (w .4)
-    (summed-said _ _ _ inv (omega arith) _ term (w .0 .taken) (term-most read) _ (w .1 .ensures .0) _ (w .3 .ensures)))
-    (λ w. rw (w .1) (summed-silent _ _ _ inv (omega arith) _ term (w .0 .left)))
+    (more (c .before) _ (w .2 .ensures ∙ term-numbers _ _ (w .0 .left) (term-most (c .before .before))) _
+    (w .3 .ensures)))
     (c .if1 .came)
 
 -- All experts are passed: the sums are those of the entry's opinions.
@@ -101,7 +130,7 @@ all-summed c =
 mean-by-requires : tie.Need-mean-by-requires Inv-loop μ-loop
 mean-by-requires c κs =
     let start = c .before .before .before .before in
-    omega (arith, ap (λ (s : Sums). s .scores) (all-summed c), start .pre .spoken-least)
+    omega (arith, ap (λ (s : Sums). s .scores) (all-summed c), start .pre .score-least)
 
 returns : tie.Need-returns Inv-loop μ-loop
 returns c = c .mean-by .ensures ∙ ap mean-by (all-summed (c .before))
@@ -118,11 +147,13 @@ mean-of-spec =
     byte-at-requires
     add-byte-at-2
     byte-at-requires-2
-    sub-with-opinion
-    mul-with-opinion
-    array-copy-out-with-opinion
-    cast-with-opinion
+    cast-score
     with-opinion-requires
+    sub-row-numbers
+    mul-row-numbers
+    array-copy-out-row-numbers
+    row-numbers-requires
+    with-opinion-requires-2
     add-expert
     loop-less
     loop-again

@@ -1,5 +1,5 @@
--- `opinion_sheet::mean::with_opinion` meets its contract: a term's values are at most 100, so the products and sums
--- fit.
+-- `opinion_sheet::mean::with_opinion` meets its contract: an opinion's numbers are at most 100, so the products and
+-- sums fit.
 use Prim.Native.Nat.{ℕ, _+_, _*_, _≤_}
 use borrow.Author.Needs.{needs}
 use mir.Syntax.{w32}
@@ -9,7 +9,7 @@ use native.Mathlib.Omega.{arith}
 use Rattle.opinion_sheet.proofs.mean.with_opinion.Statement.{statement}
 use Rattle.opinion_sheet.proofs.mean.with_opinion.Tie as tie
 
--- A score times a value of a term, and a sum with it.
+-- A score times a number of an opinion, and a sum with it.
 product-fits : (given value : ℕ) → given ≤ 255 → value ≤ 100 → Fits w32 (given * value)
 product-fits given value g v =
     let product : given * value ≤ 255 * 100 = mul-le-mul g v in
@@ -50,6 +50,15 @@ mul-t19 c = search (needs, product-fits)
 add-t20 : tie.Need-add-t20
 add-t20 c = search (needs, sum-fits)
 
+array-read-t23 : tie.Need-array-read-t23
+array-read-t23 c = search needs
+
+mul-t24 : tie.Need-mul-t24
+mul-t24 c = search (needs, product-fits)
+
+add-t25 : tie.Need-add-t25
+add-t25 c = search (needs, sum-fits)
+
 returns : tie.Need-returns
 returns c = search needs
 
@@ -67,4 +76,7 @@ with-opinion-spec =
     array-read-t18
     mul-t19
     add-t20
+    array-read-t23
+    mul-t24
+    add-t25
     returns)
