@@ -6,6 +6,7 @@ mod whole;
 mod exact;
 mod table;
 mod terms;
+mod silence;
 mod steps;
 mod tree_refusals;
 mod sheet_refusals;
