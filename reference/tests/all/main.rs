@@ -28,5 +28,6 @@ mod vectors;
 mod generated;
 mod generated_fractions;
 mod generated_windows;
+mod generated_silence;
 mod compare;
 mod examples;
