@@ -25,6 +25,7 @@ pub mod vector_list;
 pub mod fraction_vectors;
 pub mod step_vectors;
 pub mod window_vectors;
+pub mod silence_vectors;
 
 use crate::random::Random;
 
