@@ -1,7 +1,7 @@
 #!/bin/sh
-# Holds the level printer to reference/: every limit, every fault in large files and in fraction entries, generated cases
-# from a seed, and some with many silent experts; and the level printer at an hour: every limit and every fault of a book
-# of work windows.
+# Holds the level printer to reference/: every limit, every fault in large files and in fraction entries, and generated
+# cases from a seed, some with many silent experts; and the level printer at an hour: every limit and every fault of a
+# book of work windows.
 #   tests/compare_levels.sh [SEED [COUNT]]      a seed from the clock and 5,000 cases, unless said
 # A difference is printed with its seed, kind and case, and the commands that run that case alone.
 set -u

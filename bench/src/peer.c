@@ -234,8 +234,8 @@ static cut numbers_cut(const uint8_t *entry, uint64_t k, uint64_t n)
 }
 
 /*
- * The mean over all listed experts, weighted by score, and the cut of it: at most 100 * 1600 * 1000 * HUNDREDTH, below 2
- * to the 64th.
+ * The mean over all listed experts, weighted by score, and the cut of it: at most 100 * 1600 * 1000 * HUNDREDTH, below
+ * 2 to the 64th.
  */
 static cut opinions_cut(const uint8_t *sheet, const uint8_t *entry, uint64_t k, uint64_t n)
 {

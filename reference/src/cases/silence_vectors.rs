@@ -1,6 +1,6 @@
-//! Silent experts in the stored list of calls: a term taken away and given back, each term beside silence, one expert
-//! of sixteen silent and one alone speaking, with the least and the best scores, silence under gates and at an hour, and
-//! the refusals of terms.
+//! Silent experts in the stored list of calls: a term taken away and given back, the refusals of terms, each term beside
+//! silence, one expert of sixteen silent and one alone speaking, with the least and the best scores, and silence under
+//! gates and at an hour.
 
 use super::valid::Pair;
 use super::vector_list::List;
