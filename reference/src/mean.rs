@@ -41,7 +41,7 @@ fn weighted_mean(scores: &[u8], terms: &[u8]) -> Four {
     let mut numerators = [0; 4];
     let mut denominator = 0;
     for (&score, &term) in scores.iter().zip(terms) {
-        for (numerator, hundredths) in numerators.iter_mut().zip(hundredths(term)) {
+        for (numerator, hundredths) in numerators.iter_mut().zip(four_of(term)) {
             *numerator += score as u128 * hundredths as u128 * HUNDREDTH;
         }
         denominator += score as u128;
@@ -49,8 +49,8 @@ fn weighted_mean(scores: &[u8], terms: &[u8]) -> Four {
     Four { numerators, denominator }
 }
 
-/// What a listed expert's term counts as, in hundredths of 1.
-fn hundredths(term: u8) -> [u32; 4] {
+/// a, b, c and d of a listed expert's term in hundredths of 1.
+fn four_of(term: u8) -> [u32; 4] {
     match term {
         0 => SILENCE,
         code => {
