@@ -1,6 +1,7 @@
 #!/bin/sh
 # Holds the level printer to reference/: every limit, every fault in large files and in fraction entries, and generated
-# cases from a seed; and the level printer at an hour: every limit and every fault of a book of work windows.
+# cases from a seed, some with many silent experts; and the level printer at an hour: every limit and every fault of a
+# book of work windows.
 #   tests/compare_levels.sh [SEED [COUNT]]      a seed from the clock and 5,000 cases, unless said
 # A difference is printed with its seed, kind and case, and the commands that run that case alone.
 set -u
@@ -23,6 +24,7 @@ status=0
 "$reference" compare "$seed" "$("$reference" large)" large "$levels" || status=1
 "$reference" compare "$seed" "$("$reference" fractions)" fractions "$levels" || status=1
 "$reference" compare "$seed" "$count" mixed "$levels" || status=1
+"$reference" compare "$seed" 560 silence "$levels" || status=1
 # Four rounds, each with other numbers.
 "$reference" compare "$seed" $((4 * $("$reference" windows))) windows "$hour_levels" || status=1
 exit "$status"

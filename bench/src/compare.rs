@@ -113,11 +113,11 @@ fn listed_calls(kind: Kind, seed: u64, index: u64) -> Vec<Call> {
     with_hours(input_calls(&write_case(kind, seed, index), seed ^ index), seed ^ index)
 }
 
-/// A list of calls, an input of the printer, a list of calls for cut sets and an input with fraction entries by turns;
-/// each kind keeps a count of its own.
+/// A list of calls, an input of the printer, a list of calls for cut sets, an input with fraction entries and one with
+/// many silent experts by turns; each kind keeps a count of its own.
 fn generated_calls(seed: u64, index: u64) -> Vec<Call> {
-    let kinds = [Kind::Calls, Kind::Mixed, Kind::Sets, Kind::Fractions];
-    let (kind, turn) = (kinds[(index % 4) as usize], index / 4);
+    let kinds = [Kind::Calls, Kind::Mixed, Kind::Sets, Kind::Fractions, Kind::Silence];
+    let (kind, turn) = (kinds[index as usize % kinds.len()], index / kinds.len() as u64);
     let case = write_case(kind, seed, turn);
     if is_input(kind) {
         return input_calls(&case, seed ^ index);

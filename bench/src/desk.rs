@@ -77,8 +77,9 @@ pub struct Tally {
     pub calls: u64,
     pub questions: u64,
     pub answered: u64,
-    /// Those answered from a sheet with a fraction entry.
+    /// Those answered from a sheet with a fraction entry, and from one with a silent expert.
     pub fractions: u64,
+    pub silent: u64,
     /// Questions where the tree or the sheet is missing: refusals 21 and 22.
     pub unheld: u64,
     pub hand_ins: u64,
@@ -99,6 +100,7 @@ impl Tally {
         self.questions += other.questions;
         self.answered += other.answered;
         self.fractions += other.fractions;
+        self.silent += other.silent;
         self.unheld += other.unheld;
         self.hand_ins += other.hand_ins;
         self.accepted += other.accepted;
@@ -272,6 +274,7 @@ impl Desk {
         self.tally.questions += 1;
         self.tally.answered += u64::from(wanted.1.is_ok());
         self.tally.fractions += u64::from(wanted.1.is_ok_and(|answer| has_fractions(&memory.sheet, answer.events)));
+        self.tally.silent += u64::from(wanted.1.is_ok_and(|answer| has_silence(&memory.sheet, answer.events)));
         self.tally.unheld += u64::from(wanted.1.is_err_and(|refusal| [21, 22].contains(&refusal.number)));
         self.state = expected::state(wanted.0);
         self.compare(expected::reply(wanted), |library, memory| {
@@ -374,6 +377,14 @@ impl Memory {
 /// Whether one of the entries of an accepted sheet has fractions.
 fn has_fractions(sheet: &[u8], events: usize) -> bool {
     (0..events).any(|event| sheet[opinion_sheet::entry_place(event)] == opinion_sheet::FRACTIONS)
+}
+
+/// Whether a listed expert says nothing in one of the opinion entries of an accepted sheet.
+fn has_silence(sheet: &[u8], events: usize) -> bool {
+    let experts = sheet[opinion_sheet::EXPERTS_PLACE] as usize;
+    let terms = |event: usize| &sheet[opinion_sheet::inside_entry(event, 0)..][..experts];
+    let is_opinions = |event: usize| sheet[opinion_sheet::entry_place(event)] == opinion_sheet::OPINIONS;
+    (0..events).any(|event| is_opinions(event) && terms(event).contains(&0))
 }
 
 fn same_places<T: PartialEq + Debug>(name: &str, found: &[T], wanted: &[T]) -> Checked {

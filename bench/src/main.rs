@@ -113,9 +113,10 @@ fn any_seed() -> u64 {
 }
 
 fn counts(tally: Tally) -> String {
-    let Tally { calls, questions, answered, fractions, unheld, hand_ins, accepted, lists, listed, sets, .. } = tally;
-    let Tally { hour_questions, hours_answered, open, .. } = tally;
-    let answered = format!("{answered} answered, {fractions} of these with fraction entries");
+    let Tally { calls, questions, answered, fractions, silent, unheld, hand_ins, accepted, .. } = tally;
+    let Tally { lists, listed, sets, hour_questions, hours_answered, open, .. } = tally;
+    let answered =
+        format!("{answered} answered, {fractions} of these with fraction entries and {silent} with silent experts");
     let questions = format!("{questions} questions, {answered}, {unheld} with nothing to answer from");
     let lists = format!("{lists} lists of cut sets, {listed} answered with {sets} sets");
     let hours =

@@ -1,7 +1,7 @@
 /*
- * The peer: document 01 with the fraction entries of document 02, in plain C, written for speed and without a proof.
- * The proved C library is timed beside it. Its calls are those of include/nekbrod.h with peer_ for nekbrod_, and answer
- * as it says.
+ * The peer: document 01 with the fraction entries and the silent experts of document 02, in plain C, written for speed
+ * and without a proof. The proved C library is timed beside it. Its calls are those of include/nekbrod.h with peer_ for
+ * nekbrod_, and answer as it says.
  */
 #include <nekbrod.h>
 #include <string.h>
@@ -36,10 +36,10 @@ enum { EVENT, AND, OR };
 #define LARGEST_DENOMINATOR 1000000
 enum { NUMBERS, OPINIONS, FRACTIONS };
 
-/* a, b = c and d of each term in hundredths; term 0 says nothing. */
-static const uint8_t TERMS[8][3] = {{0, 0, 0},    {0, 4, 8},    {7, 13, 19},  {17, 27, 37},
-                                    {35, 50, 65}, {62, 73, 82}, {81, 87, 93}, {92, 96, 100}};
-#define SILENT 0
+/* a, b, c and d of each term in hundredths; term 0, the silence of a listed expert, counts as all of 0 to 1. */
+static const uint8_t TERMS[8][4] = {{0, 0, 100, 100}, {0, 4, 4, 8},     {7, 13, 13, 19},  {17, 27, 27, 37},
+                                    {35, 50, 50, 65}, {62, 73, 73, 82}, {81, 87, 87, 93}, {92, 96, 96, 100}};
+#define NO_TERM 0
 #define LAST_TERM 7
 #define HUNDREDTH (UNIT / 100)
 
@@ -202,7 +202,7 @@ static nekbrod_refusal judge_entry(const uint8_t *sheet, const uint8_t *entry)
     uint8_t spoke = 0;
     for (size_t expert = 0; expert < MOST_EXPERTS; expert++) {
         uint8_t term = entry[1 + expert];
-        if (term > (expert < sheet[EXPERTS] ? LAST_TERM : SILENT)) {
+        if (term > (expert < sheet[EXPERTS] ? LAST_TERM : NO_TERM)) {
             return refused(11, entry + 1 + expert - sheet);
         }
         spoke |= term;
@@ -233,21 +233,23 @@ static cut numbers_cut(const uint8_t *entry, uint64_t k, uint64_t n)
     return (cut){a * (n - k) + b * k, d * (n - k) + c * k, n};
 }
 
-/* The mean weighted by score, and the cut of it: at most 100 * 1600 * 1000 * HUNDREDTH, below 2 to the 64th. */
+/*
+ * The mean over all listed experts, weighted by score, and the cut of it: at most 100 * 1600 * 1000 * HUNDREDTH, below
+ * 2 to the 64th.
+ */
 static cut opinions_cut(const uint8_t *sheet, const uint8_t *entry, uint64_t k, uint64_t n)
 {
-    uint32_t a = 0, b = 0, d = 0, weight = 0;
+    uint32_t a = 0, b = 0, c = 0, d = 0, weight = 0;
     for (size_t expert = 0; expert < sheet[EXPERTS]; expert++) {
-        uint32_t score = sheet[SCORES + expert], term = entry[1 + expert];
-        if (term == SILENT) {
-            continue;
-        }
-        a += score * TERMS[term][0];
-        b += score * TERMS[term][1];
-        d += score * TERMS[term][2];
+        uint32_t score = sheet[SCORES + expert];
+        const uint8_t *term = TERMS[entry[1 + expert]];
+        a += score * term[0];
+        b += score * term[1];
+        c += score * term[2];
+        d += score * term[3];
         weight += score;
     }
-    return (cut){(a * (n - k) + b * k) * HUNDREDTH, (d * (n - k) + b * k) * HUNDREDTH, weight * n};
+    return (cut){(a * (n - k) + b * k) * HUNDREDTH, (d * (n - k) + c * k) * HUNDREDTH, weight * n};
 }
 
 /* The cut of an accepted fraction entry: at most 1000000 * 1000 * UNIT, below 2 to the 64th. */

@@ -16,6 +16,7 @@ pub const TREE_NUMBER: u16 = 1;
 #[derive(Clone, Copy, Debug)]
 pub enum Entries {
     Numbers,
+    /// About one expert in four is silent.
     Opinions,
     /// One after the other.
     Both,

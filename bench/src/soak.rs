@@ -10,6 +10,7 @@ use reference::cases::fraction_damage::faulty_sheet;
 use reference::cases::fraction_entries::{fractions_alone, fractions_beside};
 use reference::cases::set_trees::{set_count, set_tree};
 use reference::cases::sheet_damage::SHEET_DAMAGES;
+use reference::cases::silence::quiet_pair;
 use reference::cases::tree_damage::TREE_DAMAGES;
 use reference::cases::trees::{chain, most_events, random_tree, Shape};
 use reference::cases::valid::{any_pair, lively_pair, small_tree};
@@ -71,7 +72,7 @@ fn bad_sheet(random: &mut Random) -> Vec<u8> {
     }
 }
 
-/// One sheet in three has fraction entries.
+/// Two sheets in seven have fraction entries, and one has few experts who speak.
 fn any_files(random: &mut Random, trees: Trees) -> Files {
     let nodes = match trees {
         Trees::Little => little_tree(random),
@@ -80,11 +81,12 @@ fn any_files(random: &mut Random, trees: Trees) -> Files {
     };
     let count = nodes.len();
     let sets = set_count(&nodes).unwrap_or(1).min(MOST_SETS) as usize;
-    let pair = match random.below(6) {
+    let pair = match random.below(7) {
         0 | 1 => any_pair(random, nodes),
         2 | 3 => lively_pair(random, nodes),
         4 => fractions_alone(random, nodes),
-        _ => fractions_beside(random, nodes),
+        5 => fractions_beside(random, nodes),
+        _ => quiet_pair(random, nodes),
     };
     Files { tree: pair.tree(), sheet: pair.sheet(), nodes: count, events: pair.entries.len(), sets }
 }

@@ -29,7 +29,7 @@ reference each levels|hours|cut-sets|calls < stream
 reference vectors stream                       the stored list of calls as bytes (src/vectors.rs says the format)
 reference vectors text < stream                what crates/vectors must print for such bytes
 reference cases SEED COUNT KIND DIR|-          cases as files in DIR, or framed to standard output
-    KIND: valid limits damaged changed mixed calls sets trees large fractions windows
+    KIND: valid limits damaged changed mixed calls sets trees large fractions windows silence
 reference case SEED INDEX KIND                 one of these cases to standard output
 reference limits                               how many limits there are: so many cases of that kind have all
 reference large                                the same of the faults in large files

@@ -1,5 +1,5 @@
 //! The four numbers of an entry as fractions of a unit: as given in units, as a maker's fractions of 1, or as the mean
-//! of the opinions weighted by score.
+//! of the opinions weighted by score, in which an expert's silence stands for all of 0 to 1 (02, CR 5).
 
 use crate::end::U;
 use crate::opinion_sheet::{Entry, Fractions};
@@ -7,6 +7,9 @@ use crate::opinion_sheet::{Entry, Fractions};
 /// a, b = c and d of each term in hundredths of 1 (source 000, table 5); term code 1 stands first.
 pub const TERMS: [[u32; 3]; 7] =
     [[0, 4, 8], [7, 13, 19], [17, 27, 37], [35, 50, 65], [62, 73, 82], [81, 87, 93], [92, 96, 100]];
+
+/// a, b, c and d of silence in hundredths of 1: an expert who says nothing rules nothing out.
+const SILENCE: [u32; 4] = [0, 0, 100, 100];
 
 /// Units in a hundredth of 1.
 const HUNDREDTH: u128 = U as u128 / 100;
@@ -32,19 +35,27 @@ fn in_units(fractions: &Fractions) -> Four {
     Four { numerators, denominator: fractions.denominator as u128 }
 }
 
-/// The denominator is the total score of those who spoke: above 0 in an accepted sheet.
+/// Scores and terms are those of the listed experts. The denominator is the total of all their scores, above 0 in an
+/// accepted sheet, where somebody spoke.
 fn weighted_mean(scores: &[u8], terms: &[u8]) -> Four {
     let mut numerators = [0; 4];
     let mut denominator = 0;
     for (&score, &term) in scores.iter().zip(terms) {
-        if term == 0 {
-            continue;
-        }
-        let [a, b, d] = TERMS[term as usize - 1];
-        for (numerator, hundredths) in numerators.iter_mut().zip([a, b, b, d]) {
+        for (numerator, hundredths) in numerators.iter_mut().zip(four_of(term)) {
             *numerator += score as u128 * hundredths as u128 * HUNDREDTH;
         }
         denominator += score as u128;
     }
     Four { numerators, denominator }
+}
+
+/// a, b, c and d of a listed expert's term in hundredths of 1.
+fn four_of(term: u8) -> [u32; 4] {
+    match term {
+        0 => SILENCE,
+        code => {
+            let [a, b, d] = TERMS[code as usize - 1];
+            [a, b, b, d]
+        }
+    }
 }

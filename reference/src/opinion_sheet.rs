@@ -72,7 +72,7 @@ pub struct Sheet<'a> {
 
 pub enum Entry<'a> {
     Four([u32; 4]),
-    /// The scores and terms of all sixteen places, expert by expert.
+    /// The scores and terms of the listed experts: none of the places after the last.
     Opinions {
         scores: &'a [u8],
         terms: &'a [u8],
@@ -86,11 +86,12 @@ impl<'a> Sheet<'a> {
     }
 
     pub fn entry(&self, event: usize) -> Entry<'a> {
+        let experts = self.file[EXPERTS_PLACE] as usize;
         match self.file[entry_place(event)] {
             FOUR_NUMBERS => Entry::Four(read_four(self.file, event)),
             OPINIONS => Entry::Opinions {
-                scores: &self.file[SCORES_PLACE..HEADER],
-                terms: &self.file[inside_entry(event, 0)..entry_place(event + 1)],
+                scores: &self.file[SCORES_PLACE..][..experts],
+                terms: &self.file[inside_entry(event, 0)..][..experts],
             },
             _ => Entry::Fractions(read_fractions(self.file, event)),
         }

@@ -19,11 +19,13 @@ pub mod fraction_limits;
 pub mod fractions;
 pub mod books;
 pub mod windows;
+pub mod silence;
 pub mod call_lists;
 pub mod vector_list;
 pub mod fraction_vectors;
 pub mod step_vectors;
 pub mod window_vectors;
+pub mod silence_vectors;
 
 use crate::random::Random;
 
@@ -51,9 +53,11 @@ pub enum Kind {
     Fractions,
     /// Inputs of the level printer at an hour: limits of a book, faults, answered inputs and blind changes in turn.
     Windows,
+    /// Sheets with many silent experts, one in eight with an event of which nobody speaks.
+    Silence,
 }
 
-pub const KINDS: [(&str, Kind); 11] = [
+pub const KINDS: [(&str, Kind); 12] = [
     ("valid", Kind::Valid),
     ("limits", Kind::Limits),
     ("damaged", Kind::Damaged),
@@ -65,6 +69,7 @@ pub const KINDS: [(&str, Kind); 11] = [
     ("large", Kind::Large),
     ("fractions", Kind::Fractions),
     ("windows", Kind::Windows),
+    ("silence", Kind::Silence),
 ];
 
 pub fn parse_kind(word: &str) -> Option<Kind> {
@@ -90,6 +95,7 @@ pub fn write_case(kind: Kind, seed: u64, index: u64) -> Vec<u8> {
         Kind::Large => large_damage::large_case(random, index).bytes,
         Kind::Fractions => fractions::fraction_case(random, index),
         Kind::Windows => windows::window_case(random, index),
+        Kind::Silence => silence::silence_case(random, index).bytes,
     }
 }
 

@@ -1,6 +1,6 @@
 //! The stored list of calls that crates/vectors runs: document 01's table, each limit and one past it, each refusal
 //! with what is left after it, changed stores and states, many questions on one pair, and generated lists; then the
-//! same for minimal cut sets, for fraction entries, and for questions at an hour.
+//! same for minimal cut sets, for fraction entries, and for questions at an hour; then silent experts.
 
 use super::call_lists::{call_list, set_list};
 use super::changed::changed_input;
@@ -50,6 +50,7 @@ pub fn vector_list() -> Vec<Call> {
     list.fraction_entries();
     list.step_limits();
     list.work_windows();
+    list.silence();
     list.calls
 }
 

@@ -50,11 +50,11 @@ impl List {
         self.largest_with_full_books();
     }
 
-    fn book(&mut self, windows: &[Window]) {
+    pub(super) fn book(&mut self, windows: &[Window]) {
         self.calls.push(Call::Book(book_bytes(windows)));
     }
 
-    fn hour_question(&mut self, hour: u32, buffer: usize, level: Level, places: [usize; 3]) {
+    pub(super) fn hour_question(&mut self, hour: u32, buffer: usize, level: Level, places: [usize; 3]) {
         self.calls.push(Call::Hour(hour, buffer));
         self.calls.push(Call::HourQuestion(level, places));
     }

@@ -5,6 +5,7 @@ use crate::exact::{bottom_up, cut, events_beneath, fraction, Cut, Fraction};
 use crate::whole::Whole;
 use reference::cases::fraction_entries::{fractions_alone, fractions_beside, lively_fractions};
 use reference::cases::sheets::{any_entries, any_scores, lively_entries};
+use reference::cases::silence::quiet_pair;
 use reference::cases::trees::{chain, comb, count_events, most_events, random_tree, Shape};
 use reference::cases::valid::Pair;
 use reference::describe::{same, Entry, Node};
@@ -154,6 +155,18 @@ fn large_trees_of_fractions() {
         check_level(&nodes, &lively.scores, &lively.entries, 1, 3, random);
         let beside = fractions_beside(random, nodes);
         check_level(&beside.nodes, &beside.scores, &beside.entries, 2, 3, random);
+    }
+}
+
+/// One expert of several speaks in most entries.
+#[test]
+fn small_trees_of_silence() {
+    for index in 0..600 {
+        let random = &mut Random::for_case(73, index);
+        let shape = Shape { nodes: random.between(1, 14), event_share: random.between(30, 90), widest: 16 };
+        let nodes = random_tree(random, shape);
+        let pair = quiet_pair(random, nodes);
+        check_pair(&pair, random);
     }
 }
 

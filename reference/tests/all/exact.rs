@@ -10,7 +10,7 @@ pub struct Fraction {
     pub denominator: Whole,
 }
 
-/// The lower and the upper end of an event's exact cut over one denominator, by the words of document 01.
+/// The lower and the upper end of an event's exact cut over one denominator, by the words of documents 01 and 02.
 #[derive(Clone, Copy, Debug)]
 pub struct Cut {
     pub lower: u128,
@@ -28,16 +28,21 @@ pub fn cut(scores: &[u8], entry: &Entry, k: u32, n: u32) -> Cut {
     Cut { lower: a * n + (b - a) * k, upper: d * n - (d - c) * k, denominator: denominator * n }
 }
 
+/// An expert of score s is heard s times, and the mean is the plain one over all that was heard: the four sums, and 100
+/// times how often somebody was heard.
 fn mean(scores: &[u8], terms: &[u8]) -> ([u128; 4], u128) {
-    let spoke: Vec<(u128, [u32; 3])> = scores
-        .iter()
-        .zip(terms)
-        .filter(|(_, &term)| term != 0)
-        .map(|(&score, &term)| (score as u128, TERMS[term as usize - 1]))
-        .collect();
-    let weighted = |index: usize| spoke.iter().map(|(score, row)| score * row[index] as u128).sum::<u128>();
-    let total: u128 = spoke.iter().map(|(score, _)| score).sum();
-    ([weighted(0), weighted(1), weighted(1), weighted(2)], 100 * total)
+    let heard: Vec<[u128; 4]> =
+        (0..scores.len()).flat_map(|expert| vec![said(terms.get(expert)); scores[expert] as usize]).collect();
+    let sum = |number: usize| heard.iter().map(|four| four[number]).sum();
+    ([0, 1, 2, 3].map(sum), 100 * heard.len() as u128)
+}
+
+/// a, b, c and d of a listed expert in hundredths; with term 0, or where the terms end before, the expert is silent.
+fn said(term: Option<&u8>) -> [u128; 4] {
+    match term {
+        None | Some(0) => [0, 0, 100, 100],
+        Some(&code) => [0, 1, 1, 2].map(|column: usize| TERMS[code as usize - 1][column] as u128),
+    }
 }
 
 pub fn fraction(numerator: u128, denominator: u128) -> Fraction {

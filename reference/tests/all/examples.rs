@@ -126,7 +126,8 @@ fn event_ends(example: &Example, event: usize) -> [End; 4] {
 }
 
 /// By hand: 1, 3 and 6 of 1,250 are 0.0008, 0.0024 and 0.0048; 1, 2 and 5 of 730 are 0.00136986301.., 0.00273972602..
-/// and 0.00684931506..; opinions of 10 and 5 Low and 7 Very Low have 341 / 22 = 15.5 hundredths as d.
+/// and 0.00684931506..; opinions of 10 and 5 Low and 7 Very Low have 341 / 22 = 15.5 hundredths as d; those of 10 Low,
+/// 7 Fairly Low and 5 silent have 189, 319, 319 + 500 and 449 + 500 of 2,200.
 #[test]
 fn cooling_pumps_has_makers_figures_beside_opinions() {
     let example = example("cooling_pumps").unwrap();
@@ -135,6 +136,8 @@ fn cooling_pumps_has_makers_figures_beside_opinions() {
     let valve = event_ends(&example, 2);
     assert_eq!(valve, [1_369_863, 6_849_316, 2_739_726, 2_739_727].map(unmarked));
     assert_eq!(event_ends(&example, 0)[1], exact(155_000_000));
+    let crew = [unmarked(85_909_090), unmarked(431_363_637), exact(145_000_000), unmarked(372_272_728)];
+    assert_eq!(event_ends(&example, 3), crew);
     assert_eq!(event_ends(&example, 5)[0], exact(50_000));
 }
 

@@ -24,12 +24,3 @@ fn each_term_alone() {
         assert_eq!((top.lower, top.upper), (exact(b * 10_000_000), exact(b * 10_000_000)));
     }
 }
-
-#[test]
-fn silence_has_no_weight() {
-    let with_silence = holding(&[Node::Event], &[2, 100, 1], &[Entry::Opinions(vec![2, 0, 3])]);
-    let without = holding(&[Node::Event], &[2, 1], &[Entry::Opinions(vec![2, 3])]);
-    for k in 0..=5 {
-        assert_eq!(with_silence.answer(k, 5), without.answer(k, 5));
-    }
-}

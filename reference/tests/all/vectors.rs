@@ -115,6 +115,11 @@ fn every_answer() {
     for answer in ["\nlower 2400000 = upper 2400000 = events 1\n", thirds, "\nrefused 28 at 17417\n"] {
         assert!(text.contains(answer), "{answer:?}");
     }
+    let beside_silence =
+        ["\nlower 46666666 ~ upper 460000000 = events 1\n", "\nlower 86666666 ~ upper 420000000 = events 1\n"];
+    for answer in beside_silence {
+        assert!(text.contains(answer), "{answer:?}");
+    }
     for place in [0, 1, 6, 9, 10, 11, 16, 2_550, 2_556, 2_559, 2_561, 2_570] {
         assert!(text.contains(&format!("\nrefused 29 at {place}\nafter ")), "{place}");
     }
