@@ -4,7 +4,8 @@
 -- demand 2, `node-promised` and `node-contained` demand 3. `rounded` is what `IsRounded` says, and nothing else is:
 -- `rounded-is-rounded`, `rounded-unique` (RoundingMeaning). A step's form of rounding is the same number, up it is what
 -- `Least-reaching` says, and nothing else is: `rescaled-is-rounded`, `rescaled-up-is-least`, `least-is-rescaled-up`
--- (Rescaled). The examples: `examples-hold`, `examples-4-5-hold`, `road-trip-minimal-holds`. A tree's family is of its
+-- (Rescaled). Where an expert's term is taken away, every cut of the mean is `Wider`: `silence-widens` (SilenceWidens).
+-- The examples: `examples-hold`, `examples-4-5-hold`, `road-trip-minimal-holds`. A tree's family is of its
 -- minimal cut sets, and whatever else enumerates them has as many: `family-enumerates`, `enumerations-agree`
 -- (CutSetsEnumerated).
 -- GateFold stands for contracts inside evaluation only.
