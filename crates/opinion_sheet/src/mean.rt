@@ -2,7 +2,6 @@
 use crate::format::SCORES_PLACE;
 use crate::format::expert_count;
 use crate::fractions::Fractions;
-use crate::terms::SILENCE;
 use crate::terms::TERMS;
 use fields::fields::byte_at;
 ghost use mathlib.Core.Path.{_≡_};
@@ -13,6 +12,9 @@ ghost use Rattle.opinion_sheet.specs.Opinion.{opinions-among};
 ghost use Rattle.opinion_sheet.specs.Mean.{row-numbers, with-opinion, mean-by};
 ghost use Rattle.opinion_sheet.specs.EventCut.{fractions-trapezoid};
 ghost use Rattle.opinion_sheet.specs.Requirements.{SumsRoom, OpinionsInside};
+
+// Silence in hundredths, its a, b, c and d: all from 0 to 1 stays fully possible.
+pub const SILENCE: [u32; 4] = [0, 0, 100, 100];
 
 // The sum of the scores, and of score × value for the opinions' a, b, c and d, in hundredths.
 pub struct Sums {

@@ -8,6 +8,3 @@ pub const TERMS: [[u32; 3]; 7] = [
     [81, 87, 93],
     [92, 96, 100],
 ];
-
-// Silence in hundredths, its a, b, c and d: all from 0 to 1 stays fully possible.
-pub const SILENCE: [u32; 4] = [0, 0, 100, 100];
