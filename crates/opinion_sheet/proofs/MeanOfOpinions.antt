@@ -12,6 +12,7 @@ use Rattle.theory.specs.Trapezoid.{Trapezoid}
 use Rattle.theory.specs.Opinion.{Term, very-low, term-a, term-b, term-d, Opinion, score-of, opinion-numbers}
 use Rattle.theory.specs.Opinion.{total-score, weighted}
 use Rattle.theory.proofs.MeanRising.{total-append, weighted-append, weighted-at-most, opinion-rising}
+use Rattle.theory.proofs.MeanRising.{opinion-hundredths}
 use Rattle.opinion_sheet.specs.Format.{score, term}
 use Rattle.opinion_sheet.specs.Opinion.{terms-in-order, opinion-of, opinions-among}
 use Rattle.opinion_sheet.specs.Mean.{row-numbers, with-opinion}
@@ -83,6 +84,7 @@ numbers-most : (o : Opinion)
     (z .a ≤ 100) × (z .b ≤ 100) × (z .c ≤ 100) × (z .d ≤ 100)
 numbers-most o =
     let rising = opinion-rising o in
+    let den = opinion-hundredths o in
     (omega arith, omega arith, omega arith, omega arith)
 
 sum-most : (f : Trapezoid → ℕ) → ((o : Opinion) → f (opinion-numbers o) ≤ 100) → (os : List Opinion)

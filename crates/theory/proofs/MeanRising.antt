@@ -1,6 +1,6 @@
 -- The sums that a mean is made of, and the mean's order: a ≤ b ≤ c ≤ d ≤ 1 wherever there is a score.
 use Prim.Native.Nat.{ℕ, zero-le, _+_, _*_, _≤_, _<_}
-use mathlib.Core.Path.{_≡_}
+use mathlib.Core.Path.{_≡_, refl}
 use mathlib.Core.List.{List, [], _∷_, _++_}
 use native.Mathlib.Nat.{le-refl, add-le-add, mul-le-mul-left, mul-pos}
 use native.Mathlib.Omega.{arith}
@@ -44,17 +44,22 @@ term-rising high = (lit≤ tt, lit≤ tt, lit≤ tt)
 term-rising very-high = (lit≤ tt, lit≤ tt, lit≤ tt)
 
 -- so are those of each opinion
-pub record Opinion-rising (o : Opinion) : Type 0 where
-  pub a-b : opinion-numbers o .a ≤ opinion-numbers o .b
-  pub b-c : opinion-numbers o .b ≤ opinion-numbers o .c
-  pub c-d : opinion-numbers o .c ≤ opinion-numbers o .d
-  pub d-most : opinion-numbers o .d ≤ 100
-
-pub opinion-rising : (o : Opinion) → Opinion-rising o
+pub opinion-rising : (o : Opinion) → Rising (opinion-numbers o)
 opinion-rising (says score t) =
     let rising = term-rising t in
-    record { a-b = rising .0; b-c = le-refl (term-b t); c-d = rising .1; d-most = rising .2 }
-opinion-rising (silent score) = record { a-b = lit≤ tt; b-c = lit≤ tt; c-d = lit≤ tt; d-most = lit≤ tt }
+    record {
+      positive = lit< tt;
+      a-b = rising .0;
+      b-c = le-refl (term-b t);
+      c-d = rising .1;
+      d-den = rising .2;
+    }
+opinion-rising (silent score) =
+    record { positive = lit< tt; a-b = lit≤ tt; b-c = lit≤ tt; c-d = lit≤ tt; d-den = lit≤ tt }
+
+pub opinion-hundredths : (o : Opinion) → opinion-numbers o .den ≡ 100
+opinion-hundredths (says score t) = refl
+opinion-hundredths (silent score) = refl
 
 -- so the mean of opinions is in order
 pub mean-rising : (os : List Opinion) → 0 < total-score os → Rising (mean os)
@@ -63,5 +68,5 @@ mean-rising os h = record {
   a-b = weighted-monotone (λ z. z .a) (λ z. z .b) (λ o. opinion-rising o .a-b) os;
   b-c = weighted-monotone (λ z. z .b) (λ z. z .c) (λ o. opinion-rising o .b-c) os;
   c-d = weighted-monotone (λ z. z .c) (λ z. z .d) (λ o. opinion-rising o .c-d) os;
-  d-den = weighted-at-most (λ z. z .d) 100 (λ o. opinion-rising o .d-most) os;
+  d-den = weighted-at-most (λ z. z .d) 100 (λ o. omega (arith, opinion-rising o .d-den, opinion-hundredths o)) os;
 }
