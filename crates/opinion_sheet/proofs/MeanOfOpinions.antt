@@ -1,6 +1,6 @@
 -- The sums of the code are those of the theory's mean over the opinions of the entry, and stay small.
 use Prim.Native.Nat.{ℕ, zero, suc, _+_, _-_, _*_, _≤_, _<_}
-use mathlib.Core.Path.{_≡_, refl, ap, sym, _∙_}
+use mathlib.Core.Path.{_≡_, refl, ap, sym, subst, _∙_}
 use mathlib.Core.List.{List, [], _∷_, _++_, map}
 use lib.ListN.{length, getD}
 use native.Mathlib.Nat.{not-suc-le-zero, le-of-suc-le-suc}
@@ -78,15 +78,21 @@ pub term-numbers : (given code : ℕ) → (code ≡ 0 → ⊥) → code ≤ 7
 term-numbers given code ne h =
     rw (ne-eqb code 0 ne) (ap row-numbers (row-at terms-in-order (code - 1) (omega (arith, ne))))
 
--- The numbers of an opinion are at most 100, and the sums of opinions at most 100 × the scores.
-numbers-most : (o : Opinion)
-    → let z = opinion-numbers o in
-    (z .a ≤ 100) × (z .b ≤ 100) × (z .c ≤ 100) × (z .d ≤ 100)
+-- Four numbers of at most 100, as those of an opinion are.
+abbrev pub Hundredths : List ℕ → Type 0
+Hundredths numbers =
+    (getD numbers 0 0 ≤ 100) × (getD numbers 1 0 ≤ 100) × (getD numbers 2 0 ≤ 100) × (getD numbers 3 0 ≤ 100)
+
+numbers-most : (o : Opinion) → Hundredths (in-order (opinion-numbers o))
 numbers-most o =
     let rising = opinion-rising o in
     let den = opinion-hundredths o in
     (omega arith, omega arith, omega arith, omega arith)
 
+pub row-most : (code : ℕ) → (code ≡ 0 → ⊥) → code ≤ 7 → Hundredths (row-numbers (getD term-rows (code - 1) []))
+row-most code ne h = subst Hundredths (sym (term-numbers 0 code ne h)) (numbers-most (opinion-of 0 code))
+
+-- The sums of opinions are at most 100 × the scores, which are sixteen bytes at most.
 sum-most : (f : Trapezoid → ℕ) → ((o : Opinion) → f (opinion-numbers o) ≤ 100) → (os : List Opinion)
     → total-score os ≤ 4080 → weighted f os ≤ 1000000
 sum-most f h os l = omega (arith, weighted-at-most f 100 h os)
@@ -133,12 +139,12 @@ module _ (file : List ℕ) (terms n : ℕ) where
   unfolding opinions-among
   summed-none = record { within = omega arith; summed = refl }
 
-  module _ {i : ℕ} {sums : Sums} (before : Summed file terms n i sums) (l : i < n) (own code : ℕ) (numbers : List ℕ)
-      (said : numbers ≡ in-order (opinion-numbers (opinion-of own code))) where
-    pub summed-more : own ≡ score file i → code ≡ term file terms i → (after : Sums)
-        → after ≡ with-opinion sums numbers own → Summed file terms n (i + 1) after
+  module _ {i : ℕ} {sums : Sums} (before : Summed file terms n i sums) (l : i < n) (numbers : List ℕ) (given : ℕ) where
+    pub summed-more : given ≡ score file i
+        → numbers ≡ in-order (opinion-numbers (opinion-of given (term file terms i))) → (after : Sums)
+        → after ≡ with-opinion sums numbers given → Summed file terms n (i + 1) after
     unfolding opinions-among
-    summed-more g read after a =
+    summed-more g said after a =
         let opinion = opinion-of (score file i) (term file terms i) in
         let counted : score file i ≡ score-of opinion = sym (opinion-score (score file i) (term file terms i)) in
         record {
@@ -146,18 +152,18 @@ module _ (file : List ℕ) (terms n : ℕ) where
           summed =
               rw (add-one i)
               (a
-              ∙ rw (before .summed, said, g, read)
+              ∙ rw (before .summed, said, g)
               (ap (with-opinion (sums-of (opinions-among file terms i)) (in-order (opinion-numbers opinion))) counted
               ∙ sums-with (opinions-among file terms i) opinion));
         }
 
     -- Bytes score at most 255, so the sums stay small.
-    pub summed-room : n ≤ 16 → ((j : ℕ) → score file j < 256) → (given : ℕ) → given < 256 → SumsRoom sums numbers given
-    summed-room m bytes given byte =
+    pub summed-room : n ≤ 16 → ((j : ℕ) → score file j < 256) → Hundredths numbers → given < 256
+        → SumsRoom sums numbers given
+    summed-room m bytes most byte =
         let scores = total-most file terms 255 i (λ j k. omega (arith, bytes j)) in
         let os = opinions-among file terms i in
-        let most = numbers-most (opinion-of own code) in
-        rw (before .summed, said)
+        rw (before .summed)
         (record {
           scores-room = omega arith;
           a-room = sum-most (λ z. z .a) (λ o. numbers-most o .0) os (omega arith);

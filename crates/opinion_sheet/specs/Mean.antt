@@ -24,5 +24,10 @@ with-opinion sums numbers given =
 
 -- The mean by its sums: in hundredths, so over 100 × the scores. `mean_by` asks for a score of at least 1.
 abbrev pub mean-by : Sums → Trapezoid
-mean-by sums =
-    record { den = 100 * sums .scores; a = sums .a; b = sums .b; c = sums .c; d = sums .d }
+mean-by sums = record {
+  den = 100 * sums .scores;
+  a = sums .a;
+  b = sums .b;
+  c = sums .c;
+  d = sums .d;
+}

@@ -2,7 +2,7 @@
 use Prim.Native.Nat.{ℕ, zero-le, _+_, _*_, _≤_, _<_}
 use mathlib.Core.Path.{_≡_, refl}
 use mathlib.Core.List.{List, [], _∷_, _++_}
-use native.Mathlib.Nat.{le-refl, add-le-add, mul-le-mul-left, mul-pos}
+use native.Mathlib.Nat.{le-refl, add-le-add, mul-le-mul-left}
 use native.Mathlib.Omega.{arith}
 use lib.Dec.{lit<, lit≤}
 use Rattle.theory.specs.Trapezoid.{Trapezoid, Rising}
@@ -64,7 +64,7 @@ opinion-hundredths (silent score) = refl
 -- so the mean of opinions is in order
 pub mean-rising : (os : List Opinion) → 0 < total-score os → Rising (mean os)
 mean-rising os h = record {
-  positive = mul-pos (lit< tt) h;
+  positive = omega arith;
   a-b = weighted-monotone (λ z. z .a) (λ z. z .b) (λ o. opinion-rising o .a-b) os;
   b-c = weighted-monotone (λ z. z .b) (λ z. z .c) (λ o. opinion-rising o .b-c) os;
   c-d = weighted-monotone (λ z. z .c) (λ z. z .d) (λ o. opinion-rising o .c-d) os;

@@ -1,6 +1,6 @@
 -- `opinion_sheet::mean::mean_of` meets its contract. The loop's invariant: the sums are those over the experts passed.
 use Prim.Native.Nat.{ℕ, _+_, _-_, _≤_, _<_}
-use mathlib.Core.Path.{_≡_, _∙_, ap}
+use mathlib.Core.Path.{_≡_, _∙_, ap, subst, sym}
 use mathlib.Core.Logic.{⊎-elim}
 use mathlib.Core.List.{List}
 use denote.Ref.{now}
@@ -12,8 +12,8 @@ use Rattle.opinion_sheet.specs.Opinion.{opinion-of, opinions-among}
 use Rattle.opinion_sheet.specs.Mean.{with-opinion, mean-by}
 use Rattle.opinion_sheet.specs.Requirements.{SumsRoom}
 use Rattle.opinion_sheet.specs.declared.mean.Sums.{Sums}
-use Rattle.opinion_sheet.proofs.MeanOfOpinions.{sums-of, in-order, silence-numbers, term-numbers, Summed}
-use Rattle.opinion_sheet.proofs.MeanOfOpinions.{summed-none, summed-more, summed-room}
+use Rattle.opinion_sheet.proofs.MeanOfOpinions.{sums-of, in-order, silence-numbers, term-numbers, Hundredths}
+use Rattle.opinion_sheet.proofs.MeanOfOpinions.{row-most, Summed, summed-none, summed-more, summed-room}
 use Rattle.opinion_sheet.proofs.mean.mean_of.Statement.{statement}
 use Rattle.opinion_sheet.proofs.mean.mean_of.Tie as tie
 
@@ -31,29 +31,27 @@ term-most c =
     omega (arith, head .before .expert-count .ensures .0) in
     omega (arith, start .pre .term-most (head .loop .expert) listed, c .byte-at .ensures .0)
 
--- The numbers are those of the opinion that was read.
-abbrev Said : tie.After-byte-at2 Inv-loop μ-loop → List ℕ → Type 0
-Said c numbers = numbers ≡ in-order (opinion-numbers (opinion-of (c .byte-at2 .result) (c .before .byte-at .result)))
-
--- The sums have room for it, with whatever byte as its score.
-room : (c : tie.After-byte-at2 Inv-loop μ-loop) (numbers : List ℕ) → Said c numbers → (given : ℕ) → given < 256
+-- The sums have room for one opinion more, whatever its numbers and whatever byte its score.
+room : (c : tie.After-byte-at2 Inv-loop μ-loop) (numbers : List ℕ) (given : ℕ) → Hundredths numbers → given < 256
     → SumsRoom (c .before .before .before .loop .sums) numbers given
-room c numbers said given byte =
+room c numbers given most byte =
     let head = c .before .before .before in
-    summed-room _ _ _ (head .loop .inv) (omega arith) (c .byte-at2 .result) (c .before .byte-at .result) numbers said
+    summed-room _ _ _ (head .loop .inv) (omega arith) numbers given
     (omega (arith, head .before .expert-count .ensures .0))
-    (λ j. omega (arith, head .before .before .shared-slice-known .given (10 + j))) given byte
+    (λ j. omega (arith, head .before .before .shared-slice-known .given (10 + j))) most byte
 
--- With it they are those over one expert more.
-more : (c : tie.After-byte-at2 Inv-loop μ-loop) (numbers : List ℕ) → Said c numbers → (after : Sums)
+-- With the opinion that was read they are those over one expert more.
+more : (c : tie.After-byte-at2 Inv-loop μ-loop) (numbers : List ℕ)
+    → numbers ≡ in-order (opinion-numbers (opinion-of (c .byte-at2 .result) (c .before .byte-at .result)))
+    → (after : Sums)
     → let head = c .before .before .before in
     let start = head .before .before .before in
     after ≡ with-opinion (head .loop .sums) numbers (c .byte-at2 .result)
     → Summed (now (start .args .file)) (start .args .terms) (head .before .expert-count .result)
     (head .loop .expert + 1) after
 more c numbers said after h =
-    summed-more _ _ _ (c .before .before .before .loop .inv) (omega arith) _ _ numbers said (c .byte-at2 .ensures .0)
-    (c .before .byte-at .ensures .0) after h
+    summed-more _ _ _ (c .before .before .before .loop .inv) (omega arith) numbers _ (c .byte-at2 .ensures .0)
+    (said ∙ rw (c .before .byte-at .ensures .0)) after h
 
 expert-count-requires : tie.Need-expert-count-requires Inv-loop μ-loop
 expert-count-requires c κs = search needs
@@ -78,7 +76,8 @@ cast-score c = search needs
 
 with-opinion-requires : tie.Need-with-opinion-requires Inv-loop μ-loop
 with-opinion-requires c κs =
-    room (c .before) _ (silence-numbers _ _ (c .if1 .taken)) _ (omega (arith, c .before .byte-at2 .ensures .1))
+    room (c .before) _ _ (omega arith, omega arith, omega arith, omega arith)
+    (omega (arith, c .before .byte-at2 .ensures .1))
 
 sub-row-numbers : tie.Need-sub-row-numbers Inv-loop μ-loop
 sub-row-numbers c = omega arith
@@ -95,8 +94,9 @@ row-numbers-requires c κs = search needs
 with-opinion-requires-2 : tie.Need-with-opinion-requires-2 Inv-loop μ-loop
 with-opinion-requires-2 c κs =
     let term = c .before .before in
-    room (term .before) _
-    (c .row-numbers .ensures ∙ term-numbers _ _ (term .if1 .left) (term-most (term .before .before))) _
+    room (term .before) _ _
+    (subst Hundredths (sym (c .row-numbers .ensures))
+    (row-most _ (term .if1 .left) (term-most (term .before .before))))
     (omega (arith, term .before .byte-at2 .ensures .1))
 
 add-expert : tie.Need-add-expert Inv-loop μ-loop
