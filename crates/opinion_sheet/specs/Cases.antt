@@ -62,7 +62,7 @@ p5 = header 1 0 (zeros 16) ++ (zeros 5 ++ (1 ∷ zeros 3) ++ (1 ∷ zeros 3) ++ 
 abbrev p9 : List ℕ
 p9 = header 1 2 (2 ∷ 1 ∷ zeros 14) ++ (1 ∷ 2 ∷ 3 ∷ zeros 14)
 
--- The same two experts, the second silent, who counts with his score.
+-- The same two experts, the second silent, who counts with a score of 1.
 abbrev silent : List ℕ
 silent = header 1 2 (2 ∷ 1 ∷ zeros 14) ++ (1 ∷ 2 ∷ zeros 15)
 

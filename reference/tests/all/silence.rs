@@ -1,4 +1,4 @@
-//! A listed expert who says nothing counts as (0, 0, 100, 100) hundredths with his score (02, CR 5).
+//! A listed expert who says nothing counts as (0, 0, 100, 100) hundredths with that expert's score (02, CR 5).
 
 use crate::desk::{exact, fresh_work, holding, refusal, unmarked, Desk};
 use crate::exact::{cut, Cut};

@@ -31,7 +31,7 @@ term-most c =
     omega (arith, head .before .expert-count .ensures .0) in
     omega (arith, start .pre .term-most (head .loop .expert) listed, c .byte-at .ensures .0)
 
--- The sums have room for one opinion more, whatever its numbers and whatever byte its score.
+-- The sums have room for one opinion more, whichever hundredths its numbers and whichever byte its score.
 room : (c : tie.After-byte-at2 Inv-loop μ-loop) (numbers : List ℕ) (given : ℕ) → Hundredths numbers → given < 256
     → SumsRoom (c .before .before .before .loop .sums) numbers given
 room c numbers given most byte =
