@@ -34,7 +34,7 @@ weighted-at-most f top h (o ∷ os) =
     omega (arith, mul-le-mul-left (score-of o) (h o), weighted-at-most f top h os)
 
 -- the numbers of each term are in order, and at most 100 hundredths
-pub term-rising : (t : Term) → (term-a t ≤ term-b t) × (term-b t ≤ term-d t) × (term-d t ≤ 100)
+term-rising : (t : Term) → (term-a t ≤ term-b t) × (term-b t ≤ term-d t) × (term-d t ≤ 100)
 term-rising very-low = (lit≤ tt, lit≤ tt, lit≤ tt)
 term-rising low = (lit≤ tt, lit≤ tt, lit≤ tt)
 term-rising fairly-low = (lit≤ tt, lit≤ tt, lit≤ tt)

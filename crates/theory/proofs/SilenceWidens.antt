@@ -11,7 +11,7 @@ use Rattle.theory.specs.Trapezoid.{Trapezoid, cut}
 use Rattle.theory.specs.Opinion.{Term, very-low, low, fairly-low, medium, fairly-high, high, very-high, term-a}
 use Rattle.theory.specs.Opinion.{term-b, term-d, Opinion, says, silent, opinion-numbers, total-score, weighted}
 use Rattle.theory.specs.Opinion.{mean}
-use Rattle.theory.proofs.MeanRising.{total-append, weighted-append, term-rising, mean-rising}
+use Rattle.theory.proofs.MeanRising.{total-append, weighted-append, opinion-rising, mean-rising}
 use Rattle.theory.proofs.CutWider.{Spread, cut-wider}
 
 -- no term has all from 0 to 1 between its a and its d
@@ -49,8 +49,9 @@ module _ (before after : List Opinion) (score : ℕ) (t : Term) (counts : 0 < sc
   -- the mean spreads further
   spread : Spread (mean without-term) (mean with-term)
   spread =
-      let b-d : score * term-b t ≤ score * term-d t = mul-le-mul-left score (term-rising t .1) in
-      let d-most : score * term-d t ≤ score * 100 = mul-le-mul-left score (term-rising t .2) in
+      let rising = opinion-rising (says score t) in
+      let c-d : score * term-b t ≤ score * term-d t = mul-le-mul-left score (rising .c-d) in
+      let d-most : score * term-d t ≤ score * 100 = mul-le-mul-left score (rising .d-den) in
       record {
         den = ap (λ (s : ℕ). 100 * s) same-score;
         a = omega (arith, exchanged (λ z. z .a));

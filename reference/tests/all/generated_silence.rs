@@ -26,8 +26,8 @@ fn most_entries_have_one_speaker() {
             entries += 1;
             let Entry::Opinions(terms) = entry else { continue };
             if let [speaker] = (0..terms.len()).filter(|&expert| terms[expert] != 0).collect::<Vec<_>>()[..] {
-                let others: u32 = pair.scores.iter().map(|&score| score as u32).sum();
-                alone.push((terms.len(), pair.scores[speaker] as u32, others - pair.scores[speaker] as u32));
+                let total: u32 = pair.scores.iter().map(|&score| score as u32).sum();
+                alone.push((terms.len(), pair.scores[speaker] as u32, total - pair.scores[speaker] as u32));
             }
         }
     }
