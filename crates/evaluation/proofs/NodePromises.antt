@@ -24,7 +24,7 @@ use Rattle.evaluation.specs.Requirements.{Pair}
 
 module _ (tree sheet : List ℕ) (k n : ℕ) (pair : Pair tree sheet k n) where
   -- the cuts of the tree's events are intervals of probabilities
-  cuts-ordered : (e : ℕ) → e < table-event-count (table-of tree) → Ordered (event-cut (unit sheet) sheet k n e)
+  pub cuts-ordered : (e : ℕ) → e < table-event-count (table-of tree) → Ordered (event-cut (unit sheet) sheet k n e)
   cuts-ordered e l =
       cut-ordered _ k n
       (event-rising sheet (pair .sheet-well-formed) e

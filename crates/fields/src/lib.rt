@@ -1,2 +1,4 @@
-// Reads the unsigned numbers of a file, low byte first. The main contracts are those of `fields`.
+// Reads and writes the unsigned numbers of a file, low byte first. The main contracts are those of `fields` and of
+// `write`.
 pub mod fields;
+pub mod write;

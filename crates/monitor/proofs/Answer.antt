@@ -29,7 +29,7 @@ module _ (tree sheet : List ℕ) (nodes k n : ℕ) (before : Slices) (asked : Ev
   root-inside = omega (arith, asked .pair .tree-well-formed .header .nodes-least)
 
   -- a node's place holds its ends
-  stored : (w : Direction) (i : ℕ) → i < node-count tree
+  pub stored : (w : Direction) (i : ℕ) → i < node-count tree
       → stored-end w after i ≡ node-end (unit sheet) w tree sheet k n i
   stored w i l =
       stored-at (λ w. node-end (unit sheet) w tree sheet k n i)

@@ -116,14 +116,14 @@ module _ (file : List ℕ) (U : ℕ) (m : expert-count file ≤ 16) (e : ℕ) wh
           )
 
 -- The number of an entry's kind.
-abbrev kind-number : Entry → ℕ
+abbrev pub kind-number : Entry → ℕ
 kind-number (entry.Numbers x) = 0
 kind-number (entry.Opinions terms) = 1
 kind-number (entry.Fractions x) = 2
 
 -- What a well-formed entry that was read as of a kind holds.
 module _ (file : List ℕ) (U e : ℕ) (w : WellFormedEntry U file e) where
-  kind-read : kind file e ≡ kind-number (entry-of file e)
+  pub kind-read : kind file e ≡ kind-number (entry-of file e)
   kind-read = go (decLt (kind file e) 1) (decLt (kind file e) 2)
     where
       go : Dec (kind file e < 1) → Dec (kind file e < 2) → kind file e ≡ kind-number (entry-of file e)

@@ -13,7 +13,7 @@ use Rattle.opinion_sheet.specs.WellFormed.{WellFormed, WellFormedScores,
 use Rattle.opinion_sheet.specs.WellFormed.{WellFormedNumbers, WellFormedFractions}
 use Rattle.opinion_sheet.specs.Opinion.{opinions-among}
 use Rattle.opinion_sheet.specs.EventCut.{numbers-trapezoid, fractions-trapezoid, entry-trapezoid, event-trapezoid}
-use Rattle.opinion_sheet.specs.Requirements.{Cuttable}
+use Rattle.opinion_sheet.specs.Requirements.{Cuttable, OpinionsInside}
 use Rattle.opinion_sheet.specs.declared.entry.Numbers.{Numbers}
 use Rattle.opinion_sheet.specs.declared.fractions.Fractions.{Fractions}
 use Rattle.opinion_sheet.specs.declared.entry.Entry.{Entry}
@@ -83,3 +83,16 @@ module _ (file : List ℕ) (U : ℕ) (units : 0 < U) (scores : WellFormedScores 
 pub event-rising : (file : List ℕ) → WellFormed file → (e : ℕ) → e < event-count file
     → Rising (event-trapezoid (unit file) file e)
 event-rising file w e l = entry-rising file (unit file) (omega arith) (w .scores) e (w .entry e l)
+
+-- The opinions of an event of a well-formed file lie inside it, with a score.
+pub opinions-inside : (file : List ℕ) → WellFormed file → (e : ℕ) → e < event-count file → (terms : ℕ)
+    → entry-of file e ≡ entry.Opinions terms → OpinionsInside file terms
+opinions-inside file w e l terms read =
+    let (place, opinions) = entry-opinions file (unit file) e (w .entry e l) read in
+    record {
+      header-inside = omega (arith, w .header .length-value);
+      experts-most = w .header .experts-most;
+      terms-inside = omega (arith, w .header .length-value, place);
+      term-most = opinions .term-most;
+      score-least = opinions-scored file (w .scores) terms opinions;
+    }

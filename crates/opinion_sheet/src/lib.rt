@@ -2,14 +2,14 @@
 // The main functions are `judge::judge` and `cut::cut_at`: specs/Judged.antt and specs/EventCut.antt say what each
 // answers.
 pub mod cut;
-mod entry;
+pub mod entry;
 mod fault;
 mod format;
-mod fractions;
+pub mod fractions;
 mod header;
 pub mod judge;
 pub mod judgement;
-mod mean;
+pub mod mean;
 mod opinions;
 mod scores;
 mod terms;

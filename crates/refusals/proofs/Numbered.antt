@@ -30,3 +30,4 @@ numbered rule.ShortList e = omega arith
 numbered rule.WrongFractions e = omega arith
 numbered rule.WrongBook e = omega arith
 numbered rule.ShortBuffer e = omega arith
+numbered rule.ShortMirror e = omega arith

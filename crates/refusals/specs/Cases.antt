@@ -1,5 +1,5 @@
 -- Document 01's order read out: the turns of a tree file, of a sheet and of a question, each before the next; then
--- those of the list of minimal cut sets, and of a question at an hour.
+-- those of the list of minimal cut sets, of a question at an hour, and of the mirror.
 use mathlib.Core.Path.{refl}
 use mathlib.Core.List.{List, [], _∷_}
 use lib.Dec.{lit<}
@@ -163,6 +163,26 @@ hour-rises =
     then by-stage (lit< tt)
     then by-place refl (lit< tt)
     then by-place refl (lit< tt)
+    then by-place refl (lit< tt)
+    then by-stage (lit< tt)
+    then by-stage (lit< tt)
+    then last
+
+-- The mirror: 21, 22, 23 of the tree, 23 of the sheet, 24, 31 (02, request 6).
+abbrev pub mirror-turns : List Refusal
+mirror-turns =
+    refusal rule.NoTree 0
+    ∷ refusal rule.NoSheet 0
+    ∷ refusal rule.Changed 0
+    ∷ refusal rule.Changed 1
+    ∷ refusal rule.OtherTree 0
+    ∷ refusal rule.ShortMirror 0
+    ∷ []
+
+pub mirror-rises : Rising mirror-turns
+mirror-rises =
+    by-stage (lit< tt)
+    then by-stage (lit< tt)
     then by-place refl (lit< tt)
     then by-stage (lit< tt)
     then by-stage (lit< tt)

@@ -1,5 +1,5 @@
 -- The number of each rule: in document 01, 1 to 13 are from the input and 20 to 25 from the state; in document 02, 26
--- and 27 are of the list of minimal cut sets, 28 is of a sheet, and 29 and 30 are of work windows.
+-- and 27 are of the list of minimal cut sets, 28 is of a sheet, 29 and 30 are of work windows, and 31 is of the mirror.
 use Prim.Native.Nat.{ℕ}
 use Rattle.refusals.specs.declared.rule.Rule.{Rule}
 use Rattle.refusals.specs.declared.rule.Rule.the-variants as rule
@@ -29,3 +29,4 @@ number-of rule.ShortList = 27
 number-of rule.WrongFractions = 28
 number-of rule.WrongBook = 29
 number-of rule.ShortBuffer = 30
+number-of rule.ShortMirror = 31

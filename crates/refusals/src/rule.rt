@@ -52,6 +52,8 @@ pub enum Rule {
     WrongBook,
     // The buffer for the sheet of an hour is shorter than the held sheet.
     ShortBuffer,
+    // A buffer for a mirrored file is shorter than the held file.
+    ShortMirror,
 }
 
 // The rule's number.
@@ -83,5 +85,6 @@ pub fn rule_number(rule: Rule) -> usize
         Rule::WrongFractions => 28,
         Rule::WrongBook => 29,
         Rule::ShortBuffer => 30,
+        Rule::ShortMirror => 31,
     }
 }

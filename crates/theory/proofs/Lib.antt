@@ -43,6 +43,9 @@ pub mod OneRoot
 pub mod GateFold
 pub mod LinksBelow
 pub mod NodePromised
+-- The dual tree: De Morgan's law on what is reported.
+pub mod DeMorgan
+pub mod DualTable
 -- Minimal cut sets: those of a gate from those of its inputs (`family-enumerates`), and how many there are
 -- (`enumerations-agree`).
 pub mod MinimalSets

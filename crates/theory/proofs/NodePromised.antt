@@ -20,7 +20,7 @@ use Rattle.theory.proofs.ReportedEnds.{reported-at-most, reported-promi
 module _ (table : Table) (rank : ℕ → ℕ) (ranked : Ranked table rank) (numbered : Numbered table)
     (once : Linked-once table) where
   -- what holds of every event of the table holds of every event of a node's tree
-  each-of-table : (P : ℕ → Type 0) → ((e : ℕ) → e < event-count table → P e) → (i : ℕ) → i < table .size
+  pub each-of-table : (P : ℕ → Type 0) → ((e : ℕ) → e < event-count table → P e) → (i : ℕ) → i < table .size
       → Each P (events (tree-of table i))
   each-of-table P h i l =
       each-map (λ e. e < event-count table) P h (events (tree-of table i))

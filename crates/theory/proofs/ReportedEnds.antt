@@ -25,7 +25,7 @@ use Rattle.theory.proofs.RoundedTree.{rounded-end-gap}
 use Rattle.theory.proofs.Promised.{end-promised, promised-respects}
 
 -- both ends of an interval of probabilities are probabilities
-end-probability : (w : Direction) (x : Interval) → Ordered x → Probability (end-of w x)
+pub end-probability : (w : Direction) (x : Interval) → Ordered x → Probability (end-of w x)
 end-probability down x h = h .lower-probability
 end-probability up x h = h .upper-probability
 

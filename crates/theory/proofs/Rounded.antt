@@ -1,6 +1,7 @@
 -- The gap between a rounded end and the exact fraction that it stands in for, by each definition that builds an end: no
 -- other file opens `start`, `step`, `end-complement` or `cut-end`.
-use Prim.Native.Nat.{ℕ, _+_, _-_, _*_, _%_, _≤_, _<_}
+use Prim.Native.Nat.{ℕ, suc, _+_, _-_, _*_, _%_, _≤_, _<_}
+use native.Mathlib.Nat.{le-antisymm, lt-of-mul-lt-mul-right}
 use native.Mathlib.Nat.{mul-le-mul, mul-le-mul-right, mul-pos, zero-mul, mul-zero, mul-comm, add-comm}
 use native.Mathlib.Omega.{arith}
 use mathlib.Core.Path.{_≡_, refl, ap, ap₂, sym, _∙_}
@@ -8,10 +9,10 @@ use mathlib.Core.Bool.{Bool, true, false, _&&_, _||_}
 use lib.Dec.{T, eqb, eqb→eq}
 use borrow.Author.Tests.{ne-eqb}
 use Rattle.theory.specs.Fraction.{Fraction, Probability, one, _⊗_, complement}
-use Rattle.theory.specs.Rounding.{Direction, opposite, carry, rounded, nothing-dropped, rescaled}
+use Rattle.theory.specs.Rounding.{Direction, down, up, opposite, carry, rounded, nothing-dropped, rescaled}
 use Rattle.theory.specs.Rounding.{End, start, end-complement, true-zero, step, cut-end}
 use Rattle.theory.proofs.Missing.{sub-mul, eqb-zero-times, either-of-or, both-of-and}
-use Rattle.theory.proofs.Outward.{Outward, outward-respects, outward-widen, outward-join}
+use Rattle.theory.proofs.Outward.{Outward, outward-mark, outward-respects, outward-widen, outward-join}
 use Rattle.theory.proofs.Outward.{outward-scale, outward-cancel, outward-complement, outward-product}
 use Rattle.theory.proofs.FractionEqual.{one-times}
 use Rattle.theory.proofs.BottomUpProbability.{product-probability}
@@ -159,3 +160,50 @@ complement-gap {U} {r} {f} p k = record {
       (outward-complement (U * f .den) (mul-le-mul-right (f .den) (k .bounded)) (units-at-most U p) (k .outward));
   bounded = omega arith;
 }
+
+-- what is missing to U is at most U
+pub complement-at-most : (U : ℕ) (r : End) → end-complement U r .value ≤ U
+unfolding end-complement
+complement-at-most U r = omega arith
+
+-- and what is missing to that is the end itself
+pub complement-twice : (U : ℕ) (r : End) → r .value ≤ U → end-complement U (end-complement U r) ≡ r
+unfolding end-complement
+complement-twice U r l = let back : U - (U - r .value) ≡ r .value = omega arith in
+    λ i. record { value = back i; exact = r .exact }
+
+-- a step from ends of at most U answers at most U
+pub step-at-most : (U : ℕ) (w : Direction) (r x : End) → 0 < U → r .value ≤ U → x .value ≤ U → step U w r x .value ≤ U
+unfolding step
+step-at-most U w r x i k l = rescaled-at-most U w (r .value * x .value) U i (mul-le-mul k l)
+
+-- a gate starts at U
+pub start-at-most : (U : ℕ) → start U .value ≤ U
+unfolding start
+start-at-most U = omega arith
+
+-- a multiple of d less than d above another is none above it
+no-multiple-between : (d p q : ℕ) → p * d < q * d + 1 * d → p ≤ q
+no-multiple-between d p q l = omega (arith, lt-of-mul-lt-mul-right d {m = p} {n = suc q} (omega (arith, l)))
+
+-- two values on the same side of a number, both less than d off, are equal
+same-side : {d : ℕ} {w : Direction} {v u x : ℕ} {m n : Bool} → Outward w 1 d m (v * d) x → Outward w 1 d n (u * d) x
+    → v ≡ u
+same-side {d} {w = down} {v} {u} g h =
+    let g-near = g .gap .strictly-near (omega arith) in
+    let h-near = h .gap .strictly-near (omega arith) in
+    le-antisymm (no-multiple-between d v u (omega (arith, h-near, g .gap .order)))
+    (no-multiple-between d u v (omega (arith, g-near, h .gap .order)))
+same-side {d} {w = up} {v} {u} g h =
+    let g-near = g .gap .strictly-near (omega arith) in
+    let h-near = h .gap .strictly-near (omega arith) in
+    le-antisymm (no-multiple-between d v u (omega (arith, g-near, h .gap .order)))
+    (no-multiple-between d u v (omega (arith, h-near, g .gap .order)))
+
+-- only one end stands in for a fraction less than 1 unit off in a direction
+pub end-gap-unique : {U : ℕ} {w : Direction} {r s : End} {x : Fraction} → EndGap U w 1 r x → EndGap U w 1 s x → r ≡ s
+end-gap-unique {U} {r} {s} {x} g h =
+    let value : r .value ≡ s .value = same-side (g .outward) (h .outward) in
+    let mark : r .exact ≡ s .exact =
+    sym (outward-mark (g .outward)) ∙ ap (λ v. eqb (v * x .den) (x .num * U)) value ∙ outward-mark (h .outward) in
+    λ i. record { value = value i; exact = mark i }

@@ -19,6 +19,7 @@ pub mod Opinion
 pub mod Rounding
 pub mod Promise
 pub mod NodeTable
+pub mod Dual
 pub mod GateFold
 pub mod MinimalCutSets
 pub mod CutSetFamily

@@ -81,7 +81,7 @@ module _ (file : List ℕ) (w : WellFormed file) where
   unfolding sum-fault
   sum-absent = rw (le-leb (link-count file) (inputs-before file (node-count file)) (le-of-eq (sym (w .all-inputs))))
 
-  well-formed-absent : fault-of file ≡ Absent
+  pub well-formed-absent : fault-of file ≡ Absent
   unfolding fault-of
   well-formed-absent =
       let records : records-fault file ≡ Absent =

@@ -1,4 +1,4 @@
--- The hour's sheet is an accepted one, for the same tree, and with the counts of the held sheet.
+-- The hour's sheet is an accepted one.
 use Prim.Native.Nat.{ℕ, _+_, _*_, _≤_, _<_}
 use mathlib.Core.Path.{_≡_, refl, sym, ap, _∙_}
 use mathlib.Core.Bool.{Bool, true, false}
@@ -14,54 +14,15 @@ use Rattle.opinion_sheet.specs.EntryRules.{numbers-of, fractions-of}
 use Rattle.opinion_sheet.specs.Judged.{fault-of, counts-of}
 use Rattle.opinion_sheet.specs.WellFormed.{WellFormed, WellFormedEntry, WellFormedHeader}
 use Rattle.opinion_sheet.specs.WellFormed.{WellFormedOpinions, WellFormedScores}
+use Rattle.opinion_sheet.proofs.HeaderKept.{same-events, same-experts, header-formed, scores-formed}
 use Rattle.opinion_sheet.proofs.Accepted.{accepted-absent, well-formed-accepted}
 use Rattle.work_windows.specs.Sheet.{Written}
 
 module _ (sheet : List ℕ) (out : ℕ → Bool) (after : List ℕ) (w : Written sheet out after) where
-  -- the header's fields
-  same-field : (p : ℕ) → p + 1 < 26 → field16 after p ≡ field16 sheet p
-  same-field p l = field16-alike after p sheet p (λ j k. w .header-kept (p + j) (omega arith))
-
-  pub same-events : event-count after ≡ event-count sheet
-  same-events = same-field 7 (lit< tt)
-
-  same-experts : expert-count after ≡ expert-count sheet
-  same-experts = w .header-kept 9 (lit< tt)
-
-  -- the counts are those of the held sheet
-  pub same-counts : counts-of after ≡ counts-of sheet
-  same-counts = λ i. record { number = same-field 5 (lit< tt) i; events = same-events i; experts = same-experts i }
+  abbrev experts-kept : expert-count after ≡ expert-count sheet
+  experts-kept = same-experts sheet after (w .header-kept)
 
   module _ (formed : WellFormed sheet) where
-    header-formed : WellFormedHeader after
-    header-formed = record {
-      letters =
-          rw (w .header-kept 0 (lit< tt), w .header-kept 1 (lit< tt), w .header-kept 2 (lit< tt))
-          (formed .header .letters);
-      version-value = same-field 3 (lit< tt) ∙ formed .header .version-value;
-      events-least = rw same-events (formed .header .events-least);
-      events-most = rw same-events (formed .header .events-most);
-      experts-most = rw same-experts (formed .header .experts-most);
-      length-value =
-          w .length-kept ∙ formed .header .length-value ∙ ap (λ (n : ℕ). 26 + 17 * n) (sym same-events);
-    }
-
-    same-score : (i : ℕ) → i < 16 → score after i ≡ score sheet i
-    same-score i l = w .header-kept (10 + i) (omega arith)
-
-    scores-formed : WellFormedScores after
-    scores-formed = record {
-      score-least = λ i l. rw (same-score i (few i l)) (formed .scores .score-least i (listed i l));
-      score-most = λ i l. rw (same-score i (few i l)) (formed .scores .score-most i (listed i l));
-      score-after = λ i l k. same-score i k ∙ formed .scores .score-after i (rw same-experts at l) k;
-    }
-      where
-        listed : (i : ℕ) → i < expert-count after → i < expert-count sheet
-        listed i l = rw same-experts at l
-
-        few : (i : ℕ) → i < expert-count after → i < 16
-        few i l = omega (arith, listed i l, formed .header .experts-most)
-
     module _ (e : ℕ) (l : e < event-count sheet) where
       abbrev at : ℕ
       at = entry-at sheet e
@@ -105,21 +66,21 @@ module _ (sheet : List ℕ) (out : ℕ → Bool) (after : List ℕ) (w : Written
 
         opinions-kept : WellFormedOpinions sheet (terms-at sheet e) → WellFormedOpinions after (terms-at after e)
         opinions-kept x = record {
-          term-most = λ i k. rw (same-term i (few i k)) (x .term-most i (rw same-experts at k));
-          term-after = λ i k m. same-term i m ∙ x .term-after i (rw same-experts at k) m;
+          term-most = λ i k. rw (same-term i (few i k)) (x .term-most i (rw experts-kept at k));
+          term-after = λ i k m. same-term i m ∙ x .term-after i (rw experts-kept at k) m;
           speaker =
               let s = x .speaker in
               let among : s .expert < 16 = omega (arith, s .listed, formed .header .experts-most) in
               record {
                 expert = s .expert;
-                listed = rw same-experts (s .listed);
+                listed = rw experts-kept (s .listed);
                 spoke = rw (same-term (s .expert) among) (s .spoke);
               };
         }
           where
             few : (i : ℕ) → i < expert-count after → i < 16
             few i k =
-                let listed : i < expert-count sheet = rw same-experts at k in
+                let listed : i < expert-count sheet = rw experts-kept at k in
                 omega (arith, listed, formed .header .experts-most)
 
         entry-as-held : WellFormedEntry (unit after) after e
@@ -156,10 +117,10 @@ module _ (sheet : List ℕ) (out : ℕ → Bool) (after : List ℕ) (w : Written
     -- the hour's sheet is well formed,
     pub written-well-formed : WellFormed after
     written-well-formed = record {
-      header = header-formed;
-      scores = scores-formed;
+      header = header-formed sheet after (w .header-kept) formed (w .length-kept);
+      scores = scores-formed sheet after (w .header-kept) formed;
       entry = λ e l.
-          let inside : e < event-count sheet = rw same-events at l in
+          let inside : e < event-count sheet = rw (same-events sheet after (w .header-kept)) at l in
           entry-formed e inside (formed .entry e inside);
     }
 

@@ -10,6 +10,7 @@ use lib.Dec.{eqb}
 use lib.ListN.{length, take, drop, getD, length-append, length-drop, List·getD-append}
 use lib.Seq.{length-take-le, take-add, drop-drop, take-at, drop-at, getD-append-add}
 use borrow.Author.Tests.{eq-eqb, ne-eqb}
+use Rattle.fields.proofs.Joined.{joined-next, joined-alike, joined-parts, joined-long, joined-byte}
 use Rattle.opinion_sheet.specs.Format.{header-length, entry-at, event-count, required-length, unit}
 use Rattle.work_windows.specs.Sheet.{certain-entry, written-entry, written-entries}
 
@@ -22,38 +23,19 @@ abbrev pub also : (ℕ → Bool) → ℕ → ℕ → Bool
 also out e x = out x || eqb e x
 
 module _ (sheet : List ℕ) where
-  -- no entries, and one more
-  pub entries-none : (out : ℕ → Bool) → written-entries sheet out 0 ≡ []
-  unfolding written-entries
-  entries-none out = refl
-
-  pub entries-next : (out : ℕ → Bool) (n : ℕ) → written-entries sheet out (suc n)
-      ≡ written-entries sheet out n ++ written-entry sheet out n
-  unfolding written-entries
-  entries-next out n = refl
-
   -- only which of the first n events are out of service counts
   pub entries-alike : (out other : ℕ → Bool) (n : ℕ) → ((x : ℕ) → x < n → out x ≡ other x)
       → written-entries sheet out n ≡ written-entries sheet other n
-  entries-alike out other zero h = entries-none out ∙ sym (entries-none other)
-  entries-alike out other (suc n) h =
-      rw (
-        entries-next out n,
-        entries-next other n,
-        entries-alike out other n (λ x l. h x (omega arith)),
-        h n (omega arith),
-      )
+  entries-alike out other n h =
+      joined-alike (written-entry sheet out) (written-entry sheet other) n
+      (λ x l. ap (λ (b : Bool). entry-by x b) (h x l))
+    where
+      entry-by : ℕ → Bool → List ℕ
+      entry-by e b = cond b (certain-entry (unit sheet)) (take 17 (drop (entry-at sheet e) sheet))
 
   -- where none is, they are as held
   pub entries-held : (n : ℕ) → written-entries sheet (λ x. false) n ≡ take (17 * n) (drop header-length sheet)
-  entries-held zero = entries-none (λ x. false)
-  entries-held (suc n) =
-      let more : 17 * n + 17 ≡ 17 * suc n = omega arith in
-      entries-next (λ x. false) n
-      ∙ ap (λ (xs : List ℕ). xs ++ take 17 (drop (26 + 17 * n) sheet)) (entries-held n)
-      ∙ ap (λ (xs : List ℕ). take (17 * n) (drop 26 sheet) ++ take 17 xs) (sym (drop-drop (17 * n) 26 sheet))
-      ∙ sym (take-add (17 * n) 17 (drop 26 sheet))
-      ∙ ap (λ (m : ℕ). take m (drop 26 sheet)) more
+  entries-held n = joined-parts sheet 26 17 n
 
   -- the entry of an event, by whether it is out of service
   abbrev pub entry-by : ℕ → Bool → List ℕ
@@ -71,35 +53,12 @@ module _ (sheet : List ℕ) where
 
     pub entries-long : (out : ℕ → Bool) (n : ℕ) → n ≤ event-count sheet
         → length (written-entries sheet out n) ≡ 17 * n
-    entries-long out zero l = ap length (entries-none out)
-    entries-long out (suc n) l =
-        ap length (entries-next out n)
-        ∙ length-append (written-entries sheet out n) (written-entry sheet out n)
-        ∙ omega (arith, entries-long out n (omega arith), entry-long out n (omega arith))
+    entries-long out n l = joined-long 17 (written-entry sheet out) n (λ e k. entry-long out e (omega arith))
 
     -- a byte of an entry
     pub entry-byte : (out : ℕ → Bool) (n : ℕ) → n ≤ event-count sheet → (e j : ℕ) → e < n → j < 17
         → getD (written-entries sheet out n) (17 * e + j) 0 ≡ getD (written-entry sheet out e) j 0
-    entry-byte out zero l e j le lj = absurd (not-suc-le-zero le)
-    entry-byte out (suc n) l e j le lj =
-        ap (λ (xs : List ℕ). getD xs (17 * e + j) 0) (entries-next out n)
-        ∙ go (λ k. entry-byte out n (omega arith) e j k lj) (ℕ-discrete e n)
-      where
-        long : length (written-entries sheet out n) ≡ 17 * n
-        long = entries-long out n (omega arith)
-
-        go : (e < n → getD (written-entries sheet out n) (17 * e + j) 0 ≡ getD (written-entry sheet out e) j 0)
-            → Dec (e ≡ n) → getD (written-entries sheet out n ++ written-entry sheet out n) (17 * e + j) 0
-            ≡ getD (written-entry sheet out e) j 0
-        go earlier (yes same) =
-            let place : 17 * e + j ≡ length (written-entries sheet out n) + j = omega (arith, long) in
-            ap (λ (p : ℕ). getD (written-entries sheet out n ++ written-entry sheet out n) p 0) place
-            ∙ getD-append-add (written-entries sheet out n) (written-entry sheet out n) j 0
-            ∙ ap (λ (x : ℕ). getD (written-entry sheet out x) j 0) (sym same)
-        go earlier (no other) =
-            List·getD-append (written-entries sheet out n) (written-entry sheet out n) 0 (17 * e + j)
-            (omega (arith, long))
-            ∙ earlier (omega arith)
+    entry-byte out n l = joined-byte 17 (written-entry sheet out) n (λ e k. entry-long out e (omega arith))
 
     -- the certain entry in the place of one event's
     pub entry-replaced : (out : ℕ → Bool) (e n : ℕ) → e < n → n ≤ event-count sheet → (rest : List ℕ)
@@ -111,7 +70,7 @@ module _ (sheet : List ℕ) where
         ap put opened
         ∙ go (λ k. entry-replaced out e n k (omega arith) (written-entry sheet out n ++ rest)) (ℕ-discrete e n)
         ∙ sym (append-assoc (written-entries sheet (also out e) n) (written-entry sheet (also out e) n) rest)
-        ∙ ap (λ (xs : List ℕ). xs ++ rest) (sym (entries-next (also out e) n))
+        ∙ ap (λ (xs : List ℕ). xs ++ rest) (sym (joined-next (written-entry sheet (also out e)) n))
       where
         before : List ℕ
         before = written-entries sheet out n
@@ -124,7 +83,7 @@ module _ (sheet : List ℕ) where
         put xs = take (17 * e) xs ++ (certain-entry (unit sheet) ++ drop (17 * e + 17) xs)
 
         opened : written-entries sheet out (suc n) ++ rest ≡ before ++ (next ++ rest)
-        opened = ap (λ (xs : List ℕ). xs ++ rest) (entries-next out n) ∙ append-assoc before next rest
+        opened = ap (λ (xs : List ℕ). xs ++ rest) (joined-next (written-entry sheet out) n) ∙ append-assoc before next rest
 
         go : (e < n → put (before ++ (next ++ rest)) ≡ written-entries sheet (also out e) n ++ (next ++ rest))
             → Dec (e ≡ n) → put (before ++ (next ++ rest))

@@ -18,6 +18,7 @@ use Rattle.opinion_sheet.specs.Judged.{fault-of as sheet-fault, counts-of as sh
 use Rattle.opinion_sheet.specs.WellFormed.{WellFormed}
 use Rattle.opinion_sheet.specs.declared.judgement.Counts.{Counts as SheetCounts}
 use Rattle.opinion_sheet.proofs.Accepted.{accepted-well-formed}
+use Rattle.opinion_sheet.proofs.HeaderKept.{same-counts}
 use Rattle.evaluation.specs.Slices.{Slices}
 use Rattle.monitor.specs.Standing.{held-tree, held-sheet, sheet-changed, other-tree, fitting, level-rules}
 use Rattle.monitor.specs.Question.{outcome-by, outcome-of, question-rules, report-of}
@@ -29,7 +30,7 @@ use Rattle.work_windows.specs.OutOfService.{out-of-service}
 use Rattle.work_windows.specs.Sheet.{Written, written-sheet}
 use Rattle.work_windows.specs.Question.{lent-rules, hour-rules, written-buffer}
 use Rattle.work_windows.proofs.SheetWritten.{sheet-front, sheet-means}
-use Rattle.work_windows.proofs.Accepted.{same-counts, written-unfaulted}
+use Rattle.work_windows.proofs.Accepted.{written-unfaulted}
 
 module _ (state : State) (tree-store sheet-store book : List ℕ) (k n hour : ℕ) (buffer : List ℕ) (s : Slices)
     (none : first-of (hour-rules state tree-store sheet-store book k n hour buffer s) ≡ Absent) where
@@ -87,7 +88,7 @@ module _ (state : State) (tree-store sheet-store book : List ℕ) (k n hour : �
   same-tree =
       ap (λ (x : List ℕ). other-tree tree x) front
       ∙ ap (λ (c : SheetCounts). unless (fitting (tree-counts tree) c) OtherTree 0)
-      (same-counts sheet (out-of-service book hour) written means)
+      (same-counts sheet written (means .header-kept))
 
   -- no rule of the question is broken
   question-unfaulted : first-of (question-rules state tree-store after k n s) ≡ Absent

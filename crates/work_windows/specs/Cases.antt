@@ -4,14 +4,14 @@ use mathlib.Core.Path.{_≡_, refl}
 use mathlib.Core.Bool.{true, false}
 use mathlib.Core.List.{List, [], _∷_, _++_, map}
 use lib.ListN.{replicate}
-use Rattle.fields.specs.Fields.{bytes32, field16, field32}
+use Rattle.fields.specs.Fields.{bytes32, field16, field32, joined}
 use Rattle.refusals.specs.FirstFault.{unless, first-among}
 use Rattle.refusals.specs.declared.rule.Rule.the-variants.{WrongBook}
 use Rattle.refusals.specs.declared.refusal.FirstFault.{FirstFault}
 use Rattle.refusals.specs.declared.refusal.FirstFault.the-variants.{Absent}
 use Rattle.work_windows.specs.BookRules.{book-fault}
 use Rattle.work_windows.specs.OutOfService.{out-among, out-of-service}
-use Rattle.work_windows.specs.Sheet.{written-entries, sheet-with, written-sheet}
+use Rattle.work_windows.specs.Sheet.{sheet-with, written-sheet}
 
 -- A window of an event below 256.
 abbrev window : ℕ → ℕ → ℕ → List ℕ
@@ -82,5 +82,5 @@ largest =
 -- At hour 105 the second event is out of service, at hour 4,294,967,294 the first, and at hour 99 none.
 pub sheets : map (written-sheet sheet plan) (105 ∷ 4294967294 ∷ 99 ∷ [])
     ≡ (header ++ (first-entry ++ largest)) ∷ (header ++ (largest ++ replicate 17 0)) ∷ sheet ∷ []
-unfolding sheet-with written-entries out-among field16 field32
+unfolding sheet-with joined out-among field16 field32
 sheets = refl

@@ -1,11 +1,11 @@
 -- The sheet that is written for an hour: the held one, with the entry of each basic event that is out of service
 -- replaced by four numbers U, the probability 1.
-use Prim.Native.Nat.{ℕ, zero, suc, _+_, _<_}
+use Prim.Native.Nat.{ℕ, _+_, _<_}
 use mathlib.Core.Path.{_≡_}
 use mathlib.Core.Bool.{Bool, true, false, cond}
-use mathlib.Core.List.{List, [], _∷_, _++_}
+use mathlib.Core.List.{List, _∷_, _++_}
 use lib.ListN.{length, take, drop}
-use Rattle.fields.specs.Fields.{byte, bytes32}
+use Rattle.fields.specs.Fields.{byte, bytes32, joined}
 use Rattle.opinion_sheet.specs.Format.{header-length, entry-length, entry-at, event-count, kind, numbers-kind}
 use Rattle.opinion_sheet.specs.Format.{unit}
 use Rattle.opinion_sheet.specs.EntryRules.{numbers-of}
@@ -21,9 +21,8 @@ written-entry sheet out event =
     cond (out event) (certain-entry (unit sheet)) (take (entry-length sheet) (drop (entry-at sheet event) sheet))
 
 -- The entries of the first n events, one after the other.
-unfoldable pub written-entries : List ℕ → (ℕ → Bool) → ℕ → List ℕ
-written-entries sheet out zero = []
-written-entries sheet out (suc n) = written-entries sheet out n ++ written-entry sheet out n
+abbrev pub written-entries : List ℕ → (ℕ → Bool) → ℕ → List ℕ
+written-entries sheet out n = joined (written-entry sheet out) n
 
 -- The header as held, then the entry of each of the E events, by which of them are out of service.
 unfoldable pub sheet-with : List ℕ → (ℕ → Bool) → List ℕ

@@ -15,7 +15,7 @@ use Rattle.opinion_sheet.specs.Requirements.{Cuttable}
 use Rattle.opinion_sheet.specs.declared.entry.Entry.{Entry}
 use Rattle.opinion_sheet.specs.declared.entry.Entry.the-variants as entry
 use Rattle.opinion_sheet.proofs.EntryLaws.{entry-numbers, entry-opinions, entry-fractions}
-use Rattle.opinion_sheet.proofs.EventRising.{opinions-scored, opinions-cuttable, fractions-cuttable}
+use Rattle.opinion_sheet.proofs.EventRising.{opinions-cuttable, fractions-cuttable, opinions-inside}
 use Rattle.opinion_sheet.proofs.cut.cut_at.Statement.{statement}
 use Rattle.opinion_sheet.proofs.cut.cut_at.Tie as tie
 
@@ -70,14 +70,7 @@ enum-known-entry-2 c = search needs
 mean-of-requires : tie.Need-mean-of-requires
 mean-of-requires c κs =
     let start = c .before .before .before .before .before in
-    let header = start .pre .0 .header in
-    record {
-      header-inside = omega (arith, header .length-value);
-      experts-most = header .experts-most;
-      terms-inside = omega (arith, header .length-value, opinions c .0);
-      term-most = opinions c .1 .term-most;
-      score-least = opinions-scored _ (start .pre .0 .scores) _ (opinions c .1);
-    }
+    opinions-inside _ (start .pre .0) (start .args .event) (start .pre .1) _ (opinions-read c)
 
 cut-of-requires : tie.Need-cut-of-requires
 cut-of-requires c κs =

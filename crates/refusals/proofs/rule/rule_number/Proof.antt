@@ -77,6 +77,9 @@ enum-told-23 c = c .match .keys23
 enum-told-24 : tie.Need-enum-told-24
 enum-told-24 c = c .match .keys24
 
+enum-told-25 : tie.Need-enum-told-25
+enum-told-25 c = c .match .keys25
+
 returns : tie.Need-returns
 returns c = sym (ap number-of (c .enum-told .given .1))
 
@@ -149,6 +152,9 @@ returns-23 c = sym (ap number-of (c .enum-told23 .given .1))
 returns-24 : tie.Need-returns-24
 returns-24 c = sym (ap number-of (c .enum-told24 .given .1))
 
+returns-25 : tie.Need-returns-25
+returns-25 c = sym (ap number-of (c .enum-told25 .given .1))
+
 pub rule-number-spec : {M : Type 1} → statement M
 rule-number-spec =
     tie.close
@@ -177,6 +183,7 @@ rule-number-spec =
     enum-told-22
     enum-told-23
     enum-told-24
+    enum-told-25
     returns
     returns-2
     returns-3
@@ -200,4 +207,5 @@ rule-number-spec =
     returns-21
     returns-22
     returns-23
-    returns-24)
+    returns-24
+    returns-25)
