@@ -13,6 +13,7 @@ pub mod cut;
 pub mod evaluation;
 pub mod monitor;
 pub mod work_windows;
+pub mod mirror;
 pub mod cut_sets;
 pub mod levels;
 pub mod hours;
