@@ -17,6 +17,7 @@ pub mod mirror;
 pub mod cut_sets;
 pub mod levels;
 pub mod hours;
+pub mod mirror_files;
 pub mod set_lines;
 pub mod hex;
 pub mod calls;
