@@ -22,6 +22,7 @@ pub mod set_lines;
 pub mod hex;
 pub mod calls;
 pub mod vectors;
+pub mod mirror_calls;
 pub mod framing;
 pub mod describe;
 pub mod random;

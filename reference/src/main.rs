@@ -4,6 +4,7 @@ use reference::calls::run_calls;
 use reference::cases::fractions::FRACTION_CASES;
 use reference::cases::large_damage::LARGE_DAMAGES;
 use reference::cases::limits::LIMITS;
+use reference::cases::mirror_list::mirror_list;
 use reference::cases::mirrors::MIRROR_CASES;
 use reference::cases::vector_list::vector_list;
 use reference::cases::windows::WINDOW_CASES;
@@ -13,6 +14,7 @@ use reference::examples::{example, Example};
 use reference::framing::{frame, split_frames};
 use reference::hours::{hour_input, print_hours};
 use reference::levels::{print_levels, printer_input};
+use reference::mirror_calls::{mirror_stream_text, write_mirror_stream};
 use reference::mirror_files::print_mirror;
 use reference::set_lines::print_sets;
 use reference::vectors::{stream_text, write_stream};
@@ -31,6 +33,8 @@ reference each levels|hours|mirror|cut-sets|calls < stream
     the same for each framed case; the answers are framed alike
 reference vectors stream                       the stored list of calls as bytes (src/vectors.rs says the format)
 reference vectors text < stream                what crates/vectors must print for such bytes
+reference mirror-vectors stream                stored calls of the mirror as bytes (src/mirror_calls.rs says the format)
+reference mirror-vectors text < stream         what crates/mirror_vectors must print for such bytes
 reference cases SEED COUNT KIND DIR|-          cases as files in DIR, or framed to standard output
     KIND: valid limits damaged changed mixed calls sets trees large fractions windows silence mirrors
 reference case SEED INDEX KIND                 one of these cases to standard output
@@ -102,6 +106,11 @@ fn run(words: &[&str]) -> Result<(), Failure> {
         ["vectors", "stream"] => Ok(write_out(&write_stream(&vector_list()))?),
         ["vectors", "text"] => {
             let text = stream_text(&read_in()?).ok_or(Failure::Broken)?;
+            Ok(write_out(text.as_bytes())?)
+        }
+        ["mirror-vectors", "stream"] => Ok(write_out(&write_mirror_stream(&mirror_list()))?),
+        ["mirror-vectors", "text"] => {
+            let text = mirror_stream_text(&read_in()?).ok_or(Failure::Broken)?;
             Ok(write_out(text.as_bytes())?)
         }
         ["cases", seed, count, kind, target] => write_cases(number(seed)?, number(count)?, any_kind(kind)?, target),

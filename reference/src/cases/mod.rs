@@ -28,6 +28,7 @@ pub mod fraction_vectors;
 pub mod step_vectors;
 pub mod window_vectors;
 pub mod silence_vectors;
+pub mod mirror_list;
 
 use crate::random::Random;
 

@@ -28,6 +28,7 @@ mod mirror_files;
 mod set_lines;
 mod call_text;
 mod vectors;
+mod mirror_calls;
 mod generated;
 mod generated_fractions;
 mod generated_windows;
