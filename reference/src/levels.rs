@@ -16,7 +16,8 @@ pub const LEVELS_FIELD: usize = 2;
 pub const INPUT_HEADER: usize = LEVELS_FIELD + PAIR_HEADER;
 /// 16-bit tree length and sheet length.
 pub const PAIR_HEADER: usize = 4;
-const TREE_STORE: usize = 7_175;
+/// The lengths of the longest tree file and of the longest sheet.
+pub const TREE_STORE: usize = 7_175;
 pub const SHEET_STORE: usize = 17_434;
 /// The text for bytes that are no header with parts of its lengths.
 pub const INPUT_LINE: &str = "input\n";
