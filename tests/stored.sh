@@ -6,6 +6,7 @@
 
 vectors=$root/crates/vectors
 level_cases=$root/crates/level_cases
+mirror_vectors=$root/crates/mirror_vectors
 
 level_inputs() {
     "$reference" cases 1 34 limits - && "$reference" cases 1 250 mixed - && "$reference" cases 1 60 fractions -
@@ -28,4 +29,6 @@ stored "$vectors/stdin" "$reference" vectors stream </dev/null
 stored "$vectors/stdout" "$reference" vectors text <"$vectors/stdin"
 stored "$level_cases/stdin" level_inputs </dev/null
 stored "$level_cases/stdout" "$reference" each levels <"$level_cases/stdin"
+stored "$mirror_vectors/stdin" "$reference" mirror-vectors stream </dev/null
+stored "$mirror_vectors/stdout" "$reference" mirror-vectors text <"$mirror_vectors/stdin"
 finish

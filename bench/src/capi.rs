@@ -1,5 +1,6 @@
 //! The C interface, declared as in include/nekbrod.h, with a safe function for each call. Two linked libraries have it,
-//! the proved one and the peer, which has no cut sets and no question at an hour; others may be found at run time.
+//! the proved one and the peer, which has no cut sets, no question at an hour and no mirror; others may be found at run
+//! time.
 
 use std::ffi::{c_void, CStr};
 use std::mem::transmute;
@@ -80,6 +81,11 @@ type QuestionAtHour = unsafe extern "C" fn(
     *mut u32, usize, *mut u8, usize,
 ) -> Reply;
 
+#[rustfmt::skip]
+type Mirror = unsafe extern "C" fn(
+    State, *const u8, usize, *const u8, usize, *mut u8, usize, *mut u8, usize,
+) -> Answer;
+
 /// The calls for minimal cut sets.
 #[derive(Clone, Copy)]
 struct CutSets {
@@ -98,13 +104,14 @@ pub struct Library {
     question: Question,
     cut_sets: Option<CutSets>,
     question_at_hour: Option<QuestionAtHour>,
+    mirror: Option<Mirror>,
 }
 
 /// The library whose calls have these names.
 macro_rules! declared_library {
     (
         $name:literal, $hand_in_tree:ident, $hand_in_sheet:ident, $drop_both:ident, $judge:ident, $question:ident,
-        $cut_sets:expr, $question_at_hour:expr
+        $cut_sets:expr, $question_at_hour:expr, $mirror:expr
     ) => {{
         extern "C" {
             fn $hand_in_tree(
@@ -156,6 +163,7 @@ macro_rules! declared_library {
             question: $question,
             cut_sets: $cut_sets,
             question_at_hour: $question_at_hour,
+            mirror: $mirror,
         }
     }};
 }
@@ -189,6 +197,17 @@ extern "C" {
         marks: *mut u8,
         marks_len: usize,
     ) -> Reply;
+    fn nekbrod_mirror(
+        state: State,
+        tree_store: *const u8,
+        tree_store_len: usize,
+        sheet_store: *const u8,
+        sheet_store_len: usize,
+        tree_buffer: *mut u8,
+        tree_buffer_len: usize,
+        sheet_buffer: *mut u8,
+        sheet_buffer_len: usize,
+    ) -> Answer;
 }
 
 /// The proved library.
@@ -200,7 +219,8 @@ pub const CAPI: Library = declared_library!(
     nekbrod_judge,
     nekbrod_question,
     Some(CutSets { count: nekbrod_count_cut_sets, list: nekbrod_list_cut_sets }),
-    Some(nekbrod_question_at_hour)
+    Some(nekbrod_question_at_hour),
+    Some(nekbrod_mirror)
 );
 
 /// The plain C program, src/peer.c.
@@ -211,6 +231,7 @@ pub const PEER: Library = declared_library!(
     peer_drop_both,
     peer_judge,
     peer_question,
+    None,
     None,
     None
 );
@@ -247,8 +268,8 @@ pub struct Plan<'a> {
 }
 
 impl Library {
-    /// The library whose calls are found by their names in the header; without the cut sets and the question at an
-    /// hour, which no one asks it for.
+    /// The library whose calls are found by their names in the header; without the cut sets, the question at an hour
+    /// and the mirror, which no one asks it for and one of another commit may not have.
     ///
     /// # Safety
     /// An address that is found is that of the call, with the header's types, for as long as the program runs.
@@ -265,6 +286,7 @@ impl Library {
             question: transmute::<NonNull<c_void>, Question>(find(c"nekbrod_question")?),
             cut_sets: None,
             question_at_hour: None,
+            mirror: None,
         })
     }
 
@@ -343,6 +365,30 @@ impl Library {
                 upper.len(),
                 written(marks),
                 marks.len(),
+            )
+        })
+    }
+
+    /// Nothing where the library has no mirror.
+    pub fn mirror(
+        &self,
+        state: State,
+        tree: &[u8],
+        sheet: &[u8],
+        [tree_buffer, sheet_buffer]: [&mut [u8]; 2],
+    ) -> Option<Answer> {
+        // SAFETY: as for a question.
+        self.mirror.map(|call| unsafe {
+            call(
+                state,
+                read(tree),
+                tree.len(),
+                read(sheet),
+                sheet.len(),
+                written(tree_buffer),
+                tree_buffer.len(),
+                written(sheet_buffer),
+                sheet_buffer.len(),
             )
         })
     }

@@ -1,25 +1,33 @@
 //! Generated cases through the C library, the peer and the reference: lists of calls, and the level printer's inputs as
-//! calls, with questions at some hours between them.
+//! calls, with questions at some hours between them; and every pair that they hold mirrored.
 
 use crate::capi::{CAPI, PEER};
-use crate::desk::{guarded, Desk, Difference, Tally};
+use crate::desk::{guarded, Checked, Desk, Difference, Tally};
+use crate::expected;
+use crate::mirror_law::hold_to_law;
 use reference::calls::{parse_call, Call};
 use reference::cases::books::{any_book, bad_book, hour_near};
 use reference::cases::fractions::FRACTION_CASES;
 use reference::cases::large_damage::LARGE_DAMAGES;
 use reference::cases::limits::LIMITS;
+use reference::cases::mirror_list::mirror_list;
+use reference::cases::mirrors::MIRROR_CASES;
 use reference::cases::valid::{lively_pair, small_tree};
 use reference::cases::vector_list::vector_list;
 use reference::cases::{is_input, write_case, Kind};
 use reference::cut::Level;
 use reference::describe::book_bytes;
-use reference::levels::INPUT_HEADER;
+use reference::levels::{INPUT_HEADER, SHEET_STORE, TREE_STORE};
+use reference::mirror_calls::MirrorCall;
 use reference::random::Random;
 use reference::sheet_judge::judge_sheet;
 use reference::tree_judge::judge_tree;
 use reference::work_windows::Window;
 use reference::{opinion_sheet, tree_file};
 use std::fmt::{self, Display, Formatter};
+
+/// The lengths of the longest tree file and of the longest sheet.
+pub const LONGEST: [usize; 2] = [TREE_STORE, SHEET_STORE];
 
 /// Places of the slice for the cut sets of an input's tree.
 const LISTED: usize = 100;
@@ -32,14 +40,16 @@ pub struct Cases {
     pub first: u64,
 }
 
-/// What is run: the stored calls, the limits, the faults in large files and a round of fraction entries come before the
-/// generated cases of a whole run.
+/// What is run: the stored calls, those of the mirror, the limits, the faults in large files and a round of fraction
+/// entries and of pairs to be mirrored come before the generated cases of a whole run.
 #[derive(Clone, Copy, Debug)]
 pub enum Case {
     Stored,
+    StoredMirrors,
     Limit(u64),
     Large(u64),
     Fractions(u64),
+    Mirrors(u64),
     Generated(u64),
 }
 
@@ -47,19 +57,22 @@ impl Case {
     /// The words that run this case again, with little beside it.
     pub fn again(self, seed: u64) -> String {
         match self {
-            Case::Stored | Case::Limit(_) | Case::Large(_) | Case::Fractions(_) => format!("{seed} 0"),
             Case::Generated(index) => format!("{seed} 1 {index}"),
+            _ => format!("{seed} 0"),
         }
     }
 
-    fn calls(self, seed: u64) -> Vec<Call> {
-        match self {
-            Case::Stored => vector_list(),
-            Case::Limit(index) => listed_calls(Kind::Limits, seed, index),
-            Case::Large(index) => listed_calls(Kind::Large, seed, index),
-            Case::Fractions(index) => listed_calls(Kind::Fractions, seed, index),
-            Case::Generated(index) => with_hours(generated_calls(seed, index), seed ^ index),
-        }
+    fn run(self, desk: &mut Desk, seed: u64) -> Result<(), (usize, Difference)> {
+        let (calls, mirror_seed) = match self {
+            Case::Stored => (vector_list(), seed),
+            Case::StoredMirrors => return run_mirrors(desk, &mirror_list()),
+            Case::Limit(index) => (listed_calls(Kind::Limits, seed, index), seed ^ index),
+            Case::Large(index) => (listed_calls(Kind::Large, seed, index), seed ^ index),
+            Case::Fractions(index) => (listed_calls(Kind::Fractions, seed, index), seed ^ index),
+            Case::Mirrors(index) => (listed_calls(Kind::Mirrors, seed, index), seed ^ index),
+            Case::Generated(index) => (with_hours(generated_calls(seed, index), seed ^ index), seed ^ index),
+        };
+        run_calls(desk, &calls, mirror_seed)
     }
 }
 
@@ -67,9 +80,11 @@ impl Display for Case {
     fn fmt(&self, out: &mut Formatter) -> fmt::Result {
         match self {
             Case::Stored => write!(out, "stored calls"),
+            Case::StoredMirrors => write!(out, "stored calls of the mirror"),
             Case::Limit(index) => write!(out, "limit {index}"),
             Case::Large(index) => write!(out, "fault {index} in a large file"),
             Case::Fractions(index) => write!(out, "case {index} of fraction entries"),
+            Case::Mirrors(index) => write!(out, "case {index} of pairs to be mirrored"),
             Case::Generated(index) => write!(out, "case {index}"),
         }
     }
@@ -83,17 +98,17 @@ pub struct Found {
     pub difference: Difference,
 }
 
-/// Runs the cases to the first difference. A run from case 0 on has the stored calls, every limit and every fault in
-/// large files and in fraction entries before them.
+/// Runs the cases to the first difference. A run from case 0 on has the stored calls, every limit, every fault in large
+/// files and in fraction entries, and every limit of a mirror before them.
 pub fn compare(cases: Cases) -> (Tally, Result<(), Found>) {
     let mut tally = Tally::default();
     let listed = (0..LIMITS.len() as u64).map(Case::Limit).chain((0..LARGE_DAMAGES as u64).map(Case::Large));
-    let listed = listed.chain((0..FRACTION_CASES).map(Case::Fractions));
-    let first = [Case::Stored].into_iter().chain(listed).filter(|_| cases.first == 0);
+    let listed = listed.chain((0..FRACTION_CASES).map(Case::Fractions)).chain((0..MIRROR_CASES).map(Case::Mirrors));
+    let first = [Case::Stored, Case::StoredMirrors].into_iter().chain(listed).filter(|_| cases.first == 0);
     let generated = (cases.first..cases.first.saturating_add(cases.count)).map(Case::Generated);
     for case in first.chain(generated) {
         let mut desk = Desk::new(&[CAPI, PEER]);
-        let outcome = run_calls(&mut desk, &case.calls(cases.seed));
+        let outcome = case.run(&mut desk, cases.seed);
         tally.add(desk.tally);
         if let Err((call, difference)) = outcome {
             return (tally, Err(Found { case, call, difference }));
@@ -102,15 +117,95 @@ pub fn compare(cases: Cases) -> (Tally, Result<(), Found>) {
     (tally, Ok(()))
 }
 
-fn run_calls(desk: &mut Desk, calls: &[Call]) -> Result<(), (usize, Difference)> {
+/// Runs each of a row of calls, and tells at which one a library differs.
+fn run_each<T>(calls: &[T], mut run: impl FnMut(&T) -> Checked) -> Result<(), (usize, Difference)> {
     for (index, call) in calls.iter().enumerate() {
-        guarded(|| desk.run(call)).map_err(|difference| (index, difference))?;
+        guarded(|| run(call)).map_err(|difference| (index, difference))?;
     }
     Ok(())
 }
 
+fn run_calls(desk: &mut Desk, calls: &[Call], mirror_seed: u64) -> Result<(), (usize, Difference)> {
+    let mut mirrors = Mirrors { random: Random::for_case(mirror_seed, 2), changed: true };
+    run_each(calls, |call| {
+        desk.run(call)?;
+        mirrors.follow(call, desk)
+    })
+}
+
+fn run_mirrors(desk: &mut Desk, calls: &[MirrorCall]) -> Result<(), (usize, Difference)> {
+    run_each(calls, |call| {
+        desk.set_store_bytes(&call.tree_store, &call.sheet_store);
+        desk.set_state(expected::state(call.state));
+        desk.set_mirror_buffers([call.tree_buffer, call.sheet_buffer]);
+        desk.fill_mirror_buffers();
+        desk.mirror().map(drop)
+    })
+}
+
+/// Percent of calls on an unchanged pair with a mirror behind them.
+const MIRROR_SHARE: usize = 15;
+
+/// What is mirrored between the calls of a case; and whether what is held or its stores may have changed since.
+struct Mirrors {
+    random: Random,
+    changed: bool,
+}
+
+impl Mirrors {
+    fn follow(&mut self, call: &Call, desk: &mut Desk) -> Checked {
+        match call {
+            Call::Tree(_) | Call::Sheet(_) | Call::Drop => self.changed = true,
+            Call::Stores(..) | Call::PokeTree(..) | Call::PokeSheet(..) | Call::Held(_) => self.changed = true,
+            Call::Book(_) | Call::Hour(..) => (),
+            Call::Judge(_) | Call::Question(..) | Call::Count | Call::CutSets(_) | Call::HourQuestion(..) => {
+                if std::mem::take(&mut self.changed) {
+                    return self.mirror_pair(desk);
+                }
+                if self.random.percent(MIRROR_SHARE) {
+                    return self.mirror_to(desk, any_buffer).map(drop);
+                }
+            }
+        }
+        Ok(())
+    }
+
+    /// With buffers that suffice for what is held; what is answered is held to the law.
+    fn mirror_pair(&mut self, desk: &mut Desk) -> Checked {
+        let room = |random: &mut Random, length: usize, _| length + random.below(3);
+        if !self.mirror_to(desk, room)? {
+            return Ok(());
+        }
+        hold_to_law(desk, &mut self.random)
+    }
+
+    /// No buffer is longer than the longest file and a few bytes, whatever is held.
+    fn mirror_to(
+        &mut self,
+        desk: &mut Desk,
+        buffer: fn(&mut Random, usize, usize) -> usize,
+    ) -> Result<bool, Difference> {
+        let (held, [tree, sheet]) = (desk.state(), LONGEST);
+        let lengths =
+            [(held.tree_len, tree), (held.sheet_len, sheet)].map(|(held, longest)| (held.min(longest), longest));
+        desk.set_mirror_buffers(lengths.map(|(length, longest)| buffer(&mut self.random, length, longest)));
+        if self.random.percent(20) {
+            desk.fill_mirror_buffers();
+        }
+        desk.mirror()
+    }
+}
+
+/// Pairs to be mirrored have no level of their own, and get this many.
+const MIRROR_LEVELS: u16 = 3;
+
 fn listed_calls(kind: Kind, seed: u64, index: u64) -> Vec<Call> {
-    with_hours(input_calls(&write_case(kind, seed, index), seed ^ index), seed ^ index)
+    let case = write_case(kind, seed, index);
+    let input = match kind {
+        Kind::Mirrors => [&MIRROR_LEVELS.to_le_bytes()[..], &case].concat(),
+        _ => case,
+    };
+    with_hours(input_calls(&input, seed ^ index), seed ^ index)
 }
 
 /// A list of calls, an input of the printer, a list of calls for cut sets, an input with fraction entries and one with
@@ -131,11 +226,8 @@ fn held_pair(pair_seed: u64) -> Vec<Call> {
     let random = &mut Random::for_case(pair_seed, 0);
     let nodes = small_tree(random, 9);
     let pair = lively_pair(random, nodes);
-    let stores = Call::Stores(
-        tree_file::file_length(tree_file::MOST_NODES),
-        opinion_sheet::file_length(opinion_sheet::MOST_EVENTS),
-    );
-    vec![stores, Call::Tree(pair.tree()), Call::Sheet(pair.sheet())]
+    let [tree, sheet] = LONGEST;
+    vec![Call::Stores(tree, sheet), Call::Tree(pair.tree()), Call::Sheet(pair.sheet())]
 }
 
 /// The input's files, whatever their lengths, handed in over a held pair, its levels, the outermost, the middle and the
@@ -214,19 +306,19 @@ impl Planner {
             self.windows = Some(windows);
         }
         let hour = hour_near(random, self.windows.as_deref().unwrap_or(&[]));
-        calls.push(Call::Hour(hour, any_buffer(random, self.sheet_length)));
+        calls.push(Call::Hour(hour, any_buffer(random, self.sheet_length, LONGEST[1])));
         calls
     }
 }
 
-/// The sheet's length more often than one beside it, and at times none or many bytes.
-pub fn any_buffer(random: &mut Random, sheet_length: usize) -> usize {
+/// A buffer for a file: its length more often than one beside it, and at times none or that of the longest file.
+pub fn any_buffer(random: &mut Random, length: usize, longest: usize) -> usize {
     match random.below(16) {
-        0 => sheet_length - 1,
+        0 => length.saturating_sub(1),
         1 => 0,
-        2 => opinion_sheet::file_length(opinion_sheet::MOST_EVENTS),
-        3..=7 => sheet_length + random.between(1, 40),
-        _ => sheet_length,
+        2 => longest,
+        3..=7 => length + random.between(1, 40),
+        _ => length,
     }
 }
 

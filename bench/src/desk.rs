@@ -8,6 +8,7 @@ use reference::calls::{Call, LOWER_FILL, MARK_FILL, SET_FILL, STORE_FILL, UPPER_
 use reference::cut::Level;
 use reference::cut_sets;
 use reference::evaluation::WorkSlices;
+use reference::mirror::{self, Buffers};
 use reference::monitor::{self, Stores};
 use reference::opinion_sheet;
 use reference::work_windows::{self, Plan};
@@ -29,7 +30,7 @@ pub fn guarded(work: impl FnOnce() -> Checked) -> Checked {
 /// Places of each work slice; a question is lent the first ones, and the others are watched.
 pub const ROOM: usize = 1_100;
 
-/// Places watched behind the slice that a list is lent, and behind the buffer.
+/// Places watched behind the slice that a list is lent, and behind each buffer.
 const WATCHED: usize = 8;
 
 #[derive(Clone, PartialEq, Eq)]
@@ -39,6 +40,8 @@ struct Memory {
     slices: Slices,
     book: Vec<u8>,
     buffer: Vec<u8>,
+    /// The buffers of a mirror.
+    mirrored: Mirrored,
     /// Filled anew for each list, and compared after it.
     sets: Vec<u64>,
 }
@@ -71,6 +74,31 @@ impl Slices {
     }
 }
 
+/// The buffers for a mirrored tree and for a mirrored sheet, each with watched bytes behind it.
+#[derive(Clone, PartialEq, Eq)]
+struct Mirrored {
+    tree: Vec<u8>,
+    sheet: Vec<u8>,
+}
+
+impl Mirrored {
+    /// The buffers without the watched bytes.
+    fn lent(&mut self) -> [&mut [u8]; 2] {
+        [&mut self.tree, &mut self.sheet].map(|buffer| {
+            let length = buffer.len() - WATCHED;
+            &mut buffer[..length]
+        })
+    }
+}
+
+/// The work slices of a library after a question.
+pub struct Ends<'a> {
+    pub library: &'static str,
+    pub lower: &'a [u32],
+    pub upper: &'a [u32],
+    pub marks: &'a [u8],
+}
+
 /// How many calls were compared.
 #[derive(Clone, Copy, Default, Debug)]
 pub struct Tally {
@@ -92,6 +120,10 @@ pub struct Tally {
     pub hour_questions: u64,
     pub hours_answered: u64,
     pub open: u64,
+    /// Mirrors, those answered, and the results of nodes that were held to the law of the mirror.
+    pub mirrors: u64,
+    pub mirrored: u64,
+    pub lawful: u64,
 }
 
 impl Tally {
@@ -110,6 +142,9 @@ impl Tally {
         self.hour_questions += other.hour_questions;
         self.hours_answered += other.hours_answered;
         self.open += other.open;
+        self.mirrors += other.mirrors;
+        self.mirrored += other.mirrored;
+        self.lawful += other.lawful;
     }
 }
 
@@ -133,6 +168,7 @@ impl Desk {
             },
             book: Vec::new(),
             buffer: vec![STORE_FILL; WATCHED],
+            mirrored: Mirrored { tree: vec![STORE_FILL; WATCHED], sheet: vec![STORE_FILL; WATCHED] },
             sets: Vec::new(),
         };
         Desk {
@@ -205,6 +241,33 @@ impl Desk {
         self.state = state;
     }
 
+    pub fn state(&self) -> State {
+        self.state
+    }
+
+    /// Stores with these bytes, and no others.
+    pub fn set_store_bytes(&mut self, tree: &[u8], sheet: &[u8]) {
+        for memory in self.memories() {
+            memory.tree = tree.to_vec();
+            memory.sheet = sheet.to_vec();
+        }
+    }
+
+    /// The held tree file as its bytes stand in the first library's store; the held length is not beyond it.
+    pub fn held_tree(&self) -> &[u8] {
+        &self.libraries[0].1.tree[..self.state.tree_len]
+    }
+
+    /// The work slices of each library.
+    pub fn ends(&self) -> impl Iterator<Item = Ends<'_>> {
+        self.libraries.iter().map(|(library, Memory { slices: Slices { lower, upper, marks }, .. })| Ends {
+            library: library.name,
+            lower,
+            upper,
+            marks,
+        })
+    }
+
     pub fn fill_slices(&mut self) {
         self.memories().for_each(|memory| memory.slices.fill());
     }
@@ -224,6 +287,21 @@ impl Desk {
 
     pub fn fill_buffer(&mut self) {
         self.memories().for_each(|memory| memory.buffer.fill(STORE_FILL));
+    }
+
+    /// Buffers of these lengths for a mirror, and watched bytes behind them; bytes there stay, and new ones are ee.
+    pub fn set_mirror_buffers(&mut self, [tree, sheet]: [usize; 2]) {
+        for memory in self.memories() {
+            memory.mirrored.tree.resize(tree + WATCHED, STORE_FILL);
+            memory.mirrored.sheet.resize(sheet + WATCHED, STORE_FILL);
+        }
+    }
+
+    pub fn fill_mirror_buffers(&mut self) {
+        for memory in self.memories() {
+            memory.mirrored.tree.fill(STORE_FILL);
+            memory.mirrored.sheet.fill(STORE_FILL);
+        }
     }
 
     fn memories(&mut self) -> impl Iterator<Item = &mut Memory> {
@@ -302,6 +380,38 @@ impl Desk {
         })
     }
 
+    /// A mirror to the buffers as they are; answers whether the held pair was mirrored.
+    pub fn mirror(&mut self) -> Result<bool, Difference> {
+        let state = self.state;
+        let memory = &mut self.reference;
+        let stores = Stores { tree: &memory.tree, sheet: &memory.sheet };
+        let [tree, sheet] = memory.mirrored.lent();
+        let wanted = mirror::mirror(expected::held(state), stores, Buffers { tree, sheet });
+        let mirrored = wanted.1.is_ok();
+        self.tally.mirrors += 1;
+        self.tally.mirrored += u64::from(mirrored);
+        self.state = expected::state(wanted.0);
+        self.compare(expected::answer(wanted), |library, memory| {
+            library.mirror(state, &memory.tree, &memory.sheet, memory.mirrored.lent())
+        })?;
+        Ok(mirrored)
+    }
+
+    /// A desk for the same libraries, to which both files were handed in that the first library's mirror wrote.
+    pub fn with_mirrored_pair(&self) -> Result<Desk, Difference> {
+        let State { tree_len, sheet_len } = self.state;
+        let Mirrored { tree, sheet } = &self.libraries[0].1.mirrored;
+        let libraries: Vec<Library> = self.libraries.iter().map(|(library, _)| *library).collect();
+        let mut desk = Desk::new(&libraries);
+        desk.set_stores(tree_len, sheet_len);
+        desk.hand_in_tree(&tree[..tree_len])?;
+        desk.hand_in_sheet(&sheet[..sheet_len])?;
+        match desk.state == self.state {
+            true => Ok(desk),
+            false => Err(Difference("a mirrored file is refused".to_string())),
+        }
+    }
+
     pub fn count_cut_sets(&mut self) -> Checked {
         let state = self.state;
         let wanted = expected::set_count(cut_sets::count_sets(expected::held(state), &self.reference.tree));
@@ -370,7 +480,9 @@ impl Memory {
         same_places("upper ends", &self.slices.upper, &wanted.slices.upper)?;
         same_places("marks", &self.slices.marks, &wanted.slices.marks)?;
         same_places("book", &self.book, &wanted.book)?;
-        same_places("buffer", &self.buffer, &wanted.buffer)
+        same_places("buffer", &self.buffer, &wanted.buffer)?;
+        same_places("tree buffer", &self.mirrored.tree, &wanted.mirrored.tree)?;
+        same_places("sheet buffer", &self.mirrored.sheet, &wanted.mirrored.sheet)
     }
 }
 

@@ -5,6 +5,7 @@
 pub mod capi;
 pub mod expected;
 pub mod desk;
+pub mod mirror_law;
 pub mod compare;
 pub mod soak;
 pub mod loaded;

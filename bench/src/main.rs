@@ -19,10 +19,12 @@ bench [LIBRARY]                     questions through capi beside the same to th
 bench gates [LIBRARY]               questions on trees of AND gates alone, OR gates alone and mixed, with all ends
                                     exact, none and some: through capi beside reference/
 bench compare [SEED COUNT [FIRST]]  generated cases through capi, the peer and reference/, from case FIRST on; with no
-                                    FIRST all limits and all faults in large files and in fraction entries too
+                                    FIRST all limits, all faults in large files and in fraction entries, and all
+                                    limits of a mirror too; every pair that is held is mirrored
 bench soak [SEED CALLS]             calls in a random order through capi and reference/, each checked
 bench windows                       questions at an hour through capi, with books of up to 256 windows, none open and
                                     all: beside plain questions and beside reference/
+bench mirror                        mirrors through capi beside plain questions on the same pair and beside reference/
 bench sets                          lists of up to a million cut sets through capi beside reference/: ratios, and the
                                     cost per set
 LIBRARY is a shared library of another commit, timed beside both in the same run.
@@ -52,8 +54,9 @@ const GATES: [(Gates, &str); 3] = [(Gates::And, "AND"), (Gates::Or, "OR"), (Gate
 const GATE_NODES: [usize; 2] = [64, 1_023];
 const MARKS: [(Marks, &str); 3] = [(Marks::All, "all"), (Marks::None, "none"), (Marks::Mixed, "mixed")];
 
-/// The trees, entries and books of `bench windows`.
-const WINDOW_TREES: [(Shape, usize); 3] = [(Shape::Paired, 64), (Shape::Paired, 1_023), (Shape::MostEvents, 1_024)];
+/// The trees of `bench windows` and `bench mirror`.
+const FEW_TREES: [(Shape, usize); 3] = [(Shape::Paired, 64), (Shape::Paired, 1_023), (Shape::MostEvents, 1_024)];
+/// The entries and books of `bench windows`.
 const WINDOW_ENTRIES: [(Entries, &str); 3] =
     [(Entries::Numbers, "four numbers"), (Entries::Opinions, "opinions"), (Entries::Fractions, "fractions")];
 const BOOKS: [Book; 7] = [
@@ -98,6 +101,7 @@ fn run(words: &[&str]) -> Option<Result<bool, String>> {
         }
         ["sets"] => print_sets(),
         ["windows"] => print_windows(),
+        ["mirror"] => print_mirror(),
         ["soak"] => run_soak(any_seed(), SOAK_CALLS),
         ["soak", seed, calls] => run_soak(seed.parse().ok()?, calls.parse().ok()?),
         ["help" | "--help"] => return None,
@@ -121,7 +125,9 @@ fn counts(tally: Tally) -> String {
     let lists = format!("{lists} lists of cut sets, {listed} answered with {sets} sets");
     let hours =
         format!("{hour_questions} questions at an hour, {hours_answered} answered, {open} of these with a window open");
-    format!("{calls} calls: {questions}; {hand_ins} hand-ins, {accepted} accepted; {lists}; {hours}")
+    let Tally { mirrors, mirrored, lawful, .. } = tally;
+    let mirrors = format!("{mirrors} mirrors, {mirrored} answered, {lawful} results of nodes held to their mirror's");
+    format!("{calls} calls: {questions}; {hand_ins} hand-ins, {accepted} accepted; {lists}; {hours}; {mirrors}")
 }
 
 fn run_compare(cases: Cases) -> bool {
@@ -171,13 +177,17 @@ fn before_columns(cost: &Cost) -> String {
     }
 }
 
+/// Each tree with each kind of entries, and the name of these.
+fn every_size(trees: &[(Shape, usize)]) -> (Vec<ratios::Size>, Vec<&'static str>) {
+    let sizes = ENTRIES.iter().flat_map(|&(entries, name)| {
+        trees.iter().map(move |&(shape, nodes)| (ratios::Size { shape, nodes, entries }, name))
+    });
+    sizes.unzip()
+}
+
 /// Figures are for reading: nothing is held to them here.
 fn print_ratios(loaded: Option<Loaded>) -> bool {
-    let sizes: Vec<ratios::Size> = ENTRIES
-        .iter()
-        .flat_map(|&(entries, _)| TREES.map(|(shape, nodes)| ratios::Size { shape, nodes, entries }))
-        .collect();
-    let names = ENTRIES.iter().flat_map(|&(_, name)| TREES.map(|_| name));
+    let (sizes, names) = every_size(&TREES);
     let costs = ratios::costs(&sizes, &contestants(Contestant::Library(PEER), loaded));
     println!("                              a question, ns              a node, ns");
     println!("entries       nodes events      capi      peer  capi/peer    capi    peer{}", before_titles(loaded));
@@ -213,7 +223,7 @@ fn print_windows() -> bool {
     let mut sizes = Vec::new();
     let mut names = Vec::new();
     for (entries, name) in WINDOW_ENTRIES {
-        for ((shape, nodes), book) in WINDOW_TREES.iter().flat_map(|&tree| BOOKS.map(|book| (tree, book))) {
+        for ((shape, nodes), book) in FEW_TREES.iter().flat_map(|&tree| BOOKS.map(|book| (tree, book))) {
             sizes.push((ratios::Size { shape, nodes, entries }, book));
             names.push(name);
         }
@@ -226,6 +236,20 @@ fn print_windows() -> bool {
         print!("{name:12} {:6} {events:6} {:7} {open:4}", size.nodes, book.windows);
         print!(" {:11.0} {:9.0} {:10.0}", cost.times[0], cost.times[1], cost.times[2]);
         println!(" {:11.2} {:15.2}", cost.ratios[0], cost.ratios[1]);
+    }
+    true
+}
+
+fn print_mirror() -> bool {
+    let (sizes, names) = every_size(&FEW_TREES);
+    let contestants = [Contestant::LibraryMirror(CAPI), Contestant::Library(CAPI), Contestant::ReferenceMirror];
+    let costs = ratios::costs(&sizes, &contestants);
+    println!("                              a mirror or a question, ns");
+    println!("entries       nodes events    mirror  question  reference  mirror/question  mirror/reference");
+    for ((size, name), (events, cost)) in sizes.iter().zip(names).zip(costs) {
+        print!("{name:12} {:6} {events:6}", size.nodes);
+        print!(" {:9.0} {:9.0} {:10.0}", cost.times[0], cost.times[1], cost.times[2]);
+        println!(" {:16.2} {:17.2}", cost.ratios[0], cost.ratios[1]);
     }
     true
 }

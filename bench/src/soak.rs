@@ -1,10 +1,11 @@
-//! Calls in a random order on a desk for the C library: questions, alone and at an hour, judgements, cut sets, hand-ins
-//! good and bad and drops, with changed store bytes, states, store lengths, books and buffers between them. Most trees
-//! are small, so that many calls take little time.
+//! Calls in a random order on a desk for the C library: questions, alone and at an hour, judgements, cut sets, mirrors,
+//! hand-ins good and bad and drops, with changed store bytes, states, store lengths, books and buffers between them.
+//! Most trees are small, so that many calls take little time.
 
 use crate::capi::{State, CAPI};
-use crate::compare::any_buffer;
+use crate::compare::{any_buffer, LONGEST};
 use crate::desk::{guarded, Checked, Desk, Difference, Tally};
+use crate::mirror_law::hold_to_law;
 use reference::cases::books::{any_book, bad_book, hour_near};
 use reference::cases::fraction_damage::faulty_sheet;
 use reference::cases::fraction_entries::{fractions_alone, fractions_beside};
@@ -25,6 +26,8 @@ const CALLS_A_SHELF: u64 = 20_000;
 const SHELVES: u64 = 8;
 /// The slice of a list has up to this many places.
 const MOST_SETS: u64 = 300;
+/// Percent of answered mirrors that are held to their law.
+const LAW_SHARE: usize = 10;
 const PAIRS: usize = 12;
 const DAMAGED: usize = 24;
 
@@ -169,6 +172,7 @@ impl Soak {
                 Ok(())
             }
             43..=54 => self.question_at_hour(),
+            55..=59 => self.mirror(),
             _ => self.question(),
         }
     }
@@ -299,12 +303,25 @@ impl Soak {
     fn question_at_hour(&mut self) -> Checked {
         self.desk.set_hour(hour_near(&mut self.random, &self.windows));
         let sheet_length = self.pair().sheet.len();
-        self.desk.set_buffer(any_buffer(&mut self.random, sheet_length));
+        self.desk.set_buffer(any_buffer(&mut self.random, sheet_length, LONGEST[1]));
         if self.random.percent(20) {
             self.desk.fill_buffer();
         }
         let (level, places) = self.lent();
         self.desk.question_at_hour(level, places)
+    }
+
+    /// The buffers hold what earlier mirrors left, or are others.
+    fn mirror(&mut self) -> Checked {
+        let files = [(self.pair().tree.len(), LONGEST[0]), (self.pair().sheet.len(), LONGEST[1])];
+        self.desk.set_mirror_buffers(files.map(|(length, longest)| any_buffer(&mut self.random, length, longest)));
+        if self.random.percent(20) {
+            self.desk.fill_mirror_buffers();
+        }
+        match self.desk.mirror()? && self.random.percent(LAW_SHARE) {
+            true => hold_to_law(&mut self.desk, &mut self.random),
+            false => Ok(()),
+        }
     }
 
     fn list_cut_sets(&mut self) -> Checked {

@@ -1,12 +1,13 @@
-//! The same questions to several contestants, with the same buffers, timed. A round goes through every pair of files
-//! and every contestant, so that all see the same machine.
+//! The same questions or mirrors to several contestants, with the same buffers, timed. A round goes through every pair
+//! of files and every contestant, so that all see the same machine.
 
-use crate::capi::{self, Library, Reply, State, Work};
+use crate::capi::{self, Answer, Library, Reply, State, Work};
 use crate::expected;
 use reference::calls::{LOWER_FILL, MARK_FILL, STORE_FILL, UPPER_FILL};
 use reference::cases::valid::Pair;
 use reference::cut::Level;
 use reference::evaluation::WorkSlices;
+use reference::mirror::{self, Buffers};
 use reference::monitor::{self, Stores};
 use reference::work_windows::{self, Plan};
 use std::hint::black_box;
@@ -18,13 +19,40 @@ const TURN_NANOSECONDS: f64 = 1_000_000.0;
 const FIRST_QUESTIONS: u32 = 64;
 const LEVELS: u32 = 1_000;
 
-/// Who answers: a library with the C interface, or the reference, each by itself or at the hour.
+/// Who answers: a library with the C interface, or the reference, each a question, one at the hour, or a mirror.
 #[derive(Clone, Copy)]
 pub enum Contestant {
     Library(Library),
     Reference,
     LibraryAtHour(Library),
     ReferenceAtHour,
+    LibraryMirror(Library),
+    ReferenceMirror,
+}
+
+/// What a contestant is asked: to the same there is one answer.
+#[derive(Clone, Copy, PartialEq, Eq)]
+enum Asked {
+    Question,
+    QuestionAtHour,
+    Mirror,
+}
+
+/// What a question or a mirror answers.
+#[derive(Clone, Copy, PartialEq, Eq, Debug)]
+enum Said {
+    Reply(Reply),
+    Answer(Answer),
+}
+
+impl Said {
+    fn is_refused(&self) -> bool {
+        let refusal = match self {
+            Said::Reply(reply) => reply.refusal,
+            Said::Answer(answer) => answer.refusal,
+        };
+        refusal.number != 0
+    }
 }
 
 /// A held pair, a book and an hour, as every question is lent them.
@@ -36,9 +64,10 @@ struct Held {
     hour: u32,
 }
 
-/// The buffer and the work slices, as every question is lent them.
+/// The buffers and the work slices, as every question is lent them; the tree buffer is for mirrors alone.
 #[derive(Clone, PartialEq, Eq, Debug)]
 struct Lent {
+    tree_buffer: Vec<u8>,
     buffer: Vec<u8>,
     lower: Vec<u32>,
     upper: Vec<u32>,
@@ -88,44 +117,75 @@ fn order(contestants: usize, round: usize) -> Vec<usize> {
 impl Contestant {
     fn name(&self) -> &'static str {
         match self {
-            Contestant::Library(library) | Contestant::LibraryAtHour(library) => library.name,
-            Contestant::Reference | Contestant::ReferenceAtHour => "reference",
+            Contestant::Library(library) | Contestant::LibraryAtHour(library) | Contestant::LibraryMirror(library) => {
+                library.name
+            }
+            Contestant::Reference | Contestant::ReferenceAtHour | Contestant::ReferenceMirror => "reference",
         }
     }
 
-    fn is_at_hour(&self) -> bool {
-        matches!(self, Contestant::LibraryAtHour(_) | Contestant::ReferenceAtHour)
+    fn asked(&self) -> Asked {
+        match self {
+            Contestant::Library(_) | Contestant::Reference => Asked::Question,
+            Contestant::LibraryAtHour(_) | Contestant::ReferenceAtHour => Asked::QuestionAtHour,
+            Contestant::LibraryMirror(_) | Contestant::ReferenceMirror => Asked::Mirror,
+        }
     }
 
-    fn question(&self, held: &Held, k: u32, lent: &mut Lent) -> Reply {
-        let Held { state, tree, sheet, book, hour } = held;
-        let Lent { buffer, lower, upper, marks } = lent;
-        let (stores, level) = (Stores { tree, sheet }, Level { k, n: LEVELS });
+    /// Level k is asked; a mirror has none.
+    fn ask(&self, held: &Held, k: u32, lent: &mut Lent) -> Said {
         match self {
-            Contestant::Library(library) => {
-                library.question(*state, tree, sheet, k, LEVELS, Work { lower, upper, marks })
+            Contestant::Library(library) | Contestant::LibraryAtHour(library) | Contestant::LibraryMirror(library) => {
+                ask_library(library, self.asked(), held, k, lent)
             }
-            Contestant::LibraryAtHour(library) => {
-                let plan = capi::Plan { book, hour: *hour, buffer };
-                let work = Work { lower, upper, marks };
-                library.question_at_hour(*state, tree, sheet, [k, LEVELS], plan, work).expect("it has such a question")
-            }
-            Contestant::Reference => {
-                let work = WorkSlices { lower, upper, marks };
-                expected::reply(monitor::question(expected::held(*state), stores, level, work))
-            }
-            Contestant::ReferenceAtHour => {
-                let (plan, work) = (Plan { book, hour: *hour }, WorkSlices { lower, upper, marks });
-                let held = expected::held(*state);
-                expected::reply(work_windows::question_at_hour(held, stores, level, plan, buffer, work))
+            Contestant::Reference | Contestant::ReferenceAtHour | Contestant::ReferenceMirror => {
+                ask_reference(self.asked(), held, k, lent)
             }
         }
     }
 }
 
+fn ask_library(library: &Library, asked: Asked, held: &Held, k: u32, lent: &mut Lent) -> Said {
+    let Held { state, tree, sheet, book, hour } = held;
+    let Lent { tree_buffer, buffer, lower, upper, marks } = lent;
+    let work = Work { lower, upper, marks };
+    match asked {
+        Asked::Question => Said::Reply(library.question(*state, tree, sheet, k, LEVELS, work)),
+        Asked::QuestionAtHour => {
+            let plan = capi::Plan { book, hour: *hour, buffer };
+            let reply = library.question_at_hour(*state, tree, sheet, [k, LEVELS], plan, work);
+            Said::Reply(reply.expect("it has such a question"))
+        }
+        Asked::Mirror => {
+            let answer = library.mirror(*state, tree, sheet, [tree_buffer, buffer]);
+            Said::Answer(answer.expect("it has a mirror"))
+        }
+    }
+}
+
+fn ask_reference(asked: Asked, held: &Held, k: u32, lent: &mut Lent) -> Said {
+    let Held { state, tree, sheet, book, hour } = held;
+    let Lent { tree_buffer, buffer, lower, upper, marks } = lent;
+    let (state, stores, level) = (expected::held(*state), Stores { tree, sheet }, Level { k, n: LEVELS });
+    let work = WorkSlices { lower, upper, marks };
+    match asked {
+        Asked::Question => Said::Reply(expected::reply(monitor::question(state, stores, level, work))),
+        Asked::QuestionAtHour => {
+            let plan = Plan { book, hour: *hour };
+            let reply = work_windows::question_at_hour(state, stores, level, plan, buffer, work);
+            Said::Reply(expected::reply(reply))
+        }
+        Asked::Mirror => {
+            let buffers = Buffers { tree: tree_buffer, sheet: buffer };
+            Said::Answer(expected::answer(mirror::mirror(state, stores, buffers)))
+        }
+    }
+}
+
 impl Lent {
-    fn new(nodes: usize, sheet_length: usize) -> Lent {
+    fn new(nodes: usize, tree_length: usize, sheet_length: usize) -> Lent {
         Lent {
+            tree_buffer: vec![STORE_FILL; tree_length],
             buffer: vec![STORE_FILL; sheet_length],
             lower: vec![LOWER_FILL; nodes],
             upper: vec![UPPER_FILL; nodes],
@@ -134,6 +194,7 @@ impl Lent {
     }
 
     fn fill(&mut self) {
+        self.tree_buffer.fill(STORE_FILL);
         self.buffer.fill(STORE_FILL);
         self.lower.fill(LOWER_FILL);
         self.upper.fill(UPPER_FILL);
@@ -147,11 +208,11 @@ impl Bench {
         Bench::with_plan(pair, Plan { book: &[], hour: 0 }, contestants, watch)
     }
 
-    /// The same with a book and an hour; those that are asked at the hour answer alike, and so do the others.
+    /// The same with a book and an hour; those that are asked the same answer alike.
     pub fn with_plan(pair: &Pair, plan: Plan, contestants: &[Contestant], watch: impl FnMut(&[u8])) -> Bench {
         let (tree, sheet) = (pair.tree(), pair.sheet());
         let mut bench = Bench {
-            lent: Lent::new(pair.nodes.len(), sheet.len()),
+            lent: Lent::new(pair.nodes.len(), tree.len(), sheet.len()),
             held: Held {
                 state: State { tree_len: tree.len(), sheet_len: sheet.len() },
                 tree,
@@ -169,15 +230,15 @@ impl Bench {
 
     fn warm_up(&mut self, mut watch: impl FnMut(&[u8])) {
         for k in 0..=LEVELS {
-            let mut answered: Vec<(Contestant, Reply, Lent)> = Vec::new();
+            let mut answered: Vec<(Contestant, Said, Lent)> = Vec::new();
             for (contestant, _) in &self.contestants {
                 self.lent.fill();
-                let found = contestant.question(&self.held, k, &mut self.lent);
-                assert_eq!(found.refusal.number, 0);
+                let found = contestant.ask(&self.held, k, &mut self.lent);
+                assert!(!found.is_refused());
                 if answered.is_empty() {
                     watch(&self.lent.marks);
                 }
-                match answered.iter().find(|(other, ..)| other.is_at_hour() == contestant.is_at_hour()) {
+                match answered.iter().find(|(other, ..)| other.asked() == contestant.asked()) {
                     None => answered.push((*contestant, found, self.lent.clone())),
                     Some((other, wanted, left)) => {
                         assert_eq!(found, *wanted, "{} and {} at level {k}", contestant.name(), other.name());
@@ -206,7 +267,7 @@ impl Bench {
         let start = Instant::now();
         for question in first..first + self.questions {
             let k = black_box(question % (LEVELS + 1));
-            black_box(contestant.question(&self.held, k, &mut self.lent));
+            black_box(contestant.ask(&self.held, k, &mut self.lent));
         }
         start.elapsed().as_nanos() as f64 / self.questions as f64
     }

@@ -102,6 +102,27 @@ pub enum Form {
     Short,
 }
 
+impl Form {
+    /// The lines for a state, and for a tree and a sheet in their stores or buffers.
+    pub fn after(self, state: State, tree: &[u8], sheet: &[u8]) -> String {
+        let State { tree_length, sheet_length } = state;
+        let (tree, sheet) = (self.store_text(tree), self.store_text(sheet));
+        format!("state {tree_length} {sheet_length}\ntree {tree}\nsheet {sheet}\n")
+    }
+
+    fn is_short<T>(self, places: &[T]) -> bool {
+        self == Form::Short && places.len() > MOST_WHOLE
+    }
+
+    fn store_text(self, store: &[u8]) -> String {
+        if !self.is_short(store) {
+            return hex_text(store);
+        }
+        let (first, last) = (store[0], store[store.len() - 1]);
+        format!("{} {first:02x}..{last:02x} {}", store.len(), checksum(store))
+    }
+}
+
 /// What a list of calls works on, and how it is printed.
 pub struct Desk {
     form: Form,
@@ -252,7 +273,7 @@ impl Desk {
         self.state = state;
         let after = match self.form {
             Form::Whole => {
-                self.after() + &format!("buffer {}\n", self.store_text(&buffer)) + &self.slice_lines(&slices)
+                self.after() + &format!("buffer {}\n", self.form.store_text(&buffer)) + &self.slice_lines(&slices)
             }
             Form::Short => self.sums_line(&buffer, &slices),
         };
@@ -275,9 +296,7 @@ impl Desk {
     }
 
     fn after(&self) -> String {
-        let State { tree_length, sheet_length } = self.state;
-        let (tree, sheet) = (self.store_text(&self.tree_store), self.store_text(&self.sheet_store));
-        format!("state {tree_length} {sheet_length}\ntree {tree}\nsheet {sheet}\n")
+        self.form.after(self.state, &self.tree_store, &self.sheet_store)
     }
 
     fn slice_lines(&self, Slices { lower, upper, marks }: &Slices) -> String {
@@ -292,20 +311,8 @@ impl Desk {
         format!("after {} {}\n", checksum(&held), checksum(&lent))
     }
 
-    fn is_short<T>(&self, places: &[T]) -> bool {
-        self.form == Form::Short && places.len() > MOST_WHOLE
-    }
-
-    fn store_text(&self, store: &[u8]) -> String {
-        if !self.is_short(store) {
-            return hex_text(store);
-        }
-        let (first, last) = (store[0], store[store.len() - 1]);
-        format!("{} {first:02x}..{last:02x} {}", store.len(), checksum(store))
-    }
-
     fn slice_line<T: Display + Copy + Into<u64>>(&self, name: &str, slice: &[T]) -> String {
-        if self.is_short(slice) {
+        if self.form.is_short(slice) {
             let (first, last) = (slice[0], slice[slice.len() - 1]);
             return format!("{name} {} {first}..{last} {}\n", slice.len(), checksum(slice));
         }
@@ -357,7 +364,7 @@ fn poke(store: &mut [u8], place: u32, byte: u8) -> Option<()> {
     Some(())
 }
 
-fn answer_line(outcome: Result<String, Refusal>) -> String {
+pub fn answer_line(outcome: Result<String, Refusal>) -> String {
     match outcome {
         Ok(answer) => answer + "\n",
         Err(refusal) => refusal_line(refusal),

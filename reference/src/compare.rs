@@ -1,21 +1,30 @@
-//! A level printer, or one at an hour, that is a program of its own, held to the same printer here on generated cases.
+//! A level printer, one at an hour, or a mirror of files, that is a program of its own, held to the same here on
+//! generated cases.
 
 use crate::cases::{is_input, kind_name, write_case, Kind};
 use crate::hours::print_hours;
 use crate::levels::print_levels;
+use crate::mirror_files::print_mirror;
+use crate::tree_file;
 use std::io::{self, Write};
 use std::process::{Command, Stdio};
 
-/// A printer by its word, and its text.
-pub type Printer = (&'static str, fn(&[u8]) -> String);
+/// A printer by its word, and what it prints: a text, or mirrored files.
+pub type Printer = (&'static str, fn(&[u8]) -> Vec<u8>);
 
 /// The printer that the cases of a kind are for, or nothing for lists of calls and lone trees.
 pub fn printer_of(kind: Kind) -> Option<Printer> {
     match kind {
-        Kind::Windows => Some(("hours", print_hours)),
-        _ if is_input(kind) => Some(("levels", print_levels)),
+        Kind::Windows => Some(("hours", |input| print_hours(input).into_bytes())),
+        Kind::Mirrors => Some(("mirror", print_mirror)),
+        _ if is_input(kind) => Some(("levels", |input| print_levels(input).into_bytes())),
         _ => None,
     }
+}
+
+/// Whether it is mirrored files and no text.
+fn is_files(printed: &[u8]) -> bool {
+    printed.starts_with(tree_file::LETTERS)
 }
 
 /// The first `count` cases of a kind and a seed, for a printer.
@@ -38,7 +47,7 @@ pub struct Comparison {
 
 pub struct Difference {
     pub index: u64,
-    pub expected: String,
+    pub expected: Vec<u8>,
     pub run: Run,
 }
 
@@ -53,13 +62,14 @@ pub fn compare(cases: Cases, program: &[&str]) -> io::Result<Comparison> {
     for index in 0..cases.count {
         let case = write_case(cases.kind, cases.seed, index);
         let expected = (cases.printer.1)(&case);
-        match expected.split([' ', '\n']).next() {
-            Some("tree") => comparison.answered += 1,
-            Some("refused") => comparison.refused += 1,
+        match expected.split(|byte| b" \n".contains(byte)).next() {
+            _ if is_files(&expected) => comparison.answered += 1,
+            Some(b"tree") => comparison.answered += 1,
+            Some(b"refused") => comparison.refused += 1,
             _ => comparison.input += 1,
         }
         let run = run(program, &case)?;
-        if !run.ended_well || run.printed != expected.as_bytes() {
+        if !run.ended_well || run.printed != expected {
             comparison.differences.push(Difference { index, expected, run });
         }
     }
@@ -104,18 +114,35 @@ pub fn report(cases: Cases, program: &[&str], own_name: &str, comparison: &Compa
     text
 }
 
-fn first_difference(expected: &str, run: &Run) -> String {
+/// Files that differ are told by their first byte that does, all else by lines.
+fn first_difference(expected: &[u8], run: &Run) -> String {
     let mut text = String::new();
     if !run.ended_well {
         text.push_str("  the program did not end with status 0\n");
     }
-    let (ours, theirs) = (lines(expected.as_bytes()), lines(&run.printed));
-    let line_of = |lines: &[&[u8]], line: usize| lines.get(line).map_or("no line".to_string(), |bytes| shown(bytes));
-    if let Some(line) = (0..ours.len().max(theirs.len())).find(|&line| ours.get(line) != theirs.get(line)) {
-        let (ours, theirs) = (line_of(&ours, line), line_of(&theirs, line));
-        text.push_str(&format!("  line {}: {ours} here, {theirs} from the program\n", line + 1));
+    if is_files(expected) && is_files(&run.printed) {
+        return text + &different_part("byte", 0, expected, &run.printed, |byte| format!("{byte:02x}"));
     }
-    text
+    let (ours, theirs) = (lines(expected), lines(&run.printed));
+    text + &different_part("line", 1, &ours, &theirs, |line| shown(line))
+}
+
+/// The first part in which the two differ, counted from `first`; nothing where there is none.
+fn different_part<T: PartialEq>(
+    name: &str,
+    first: usize,
+    ours: &[T],
+    theirs: &[T],
+    shown: impl Fn(&T) -> String,
+) -> String {
+    let part_of = |parts: &[T], index: usize| parts.get(index).map_or(format!("no {name}"), &shown);
+    match (0..ours.len().max(theirs.len())).find(|&index| ours.get(index) != theirs.get(index)) {
+        Some(index) => {
+            let (ours, theirs) = (part_of(ours, index), part_of(theirs, index));
+            format!("  {name} {}: {ours} here, {theirs} from the program\n", first + index)
+        }
+        None => String::new(),
+    }
 }
 
 /// Each line keeps its line feed, so that a missing one is seen.

@@ -10,9 +10,14 @@ use crate::refusal::Refusal;
 use crate::tree_file;
 use std::array::from_fn;
 
+/// 16-bit n, before the lengths of the parts.
+pub const LEVELS_FIELD: usize = 2;
 /// 16-bit n, tree length and sheet length.
-pub const INPUT_HEADER: usize = 6;
-const TREE_STORE: usize = 7_175;
+pub const INPUT_HEADER: usize = LEVELS_FIELD + PAIR_HEADER;
+/// 16-bit tree length and sheet length.
+pub const PAIR_HEADER: usize = 4;
+/// The lengths of the longest tree file and of the longest sheet.
+pub const TREE_STORE: usize = 7_175;
 pub const SHEET_STORE: usize = 17_434;
 /// The text for bytes that are no header with parts of its lengths.
 pub const INPUT_LINE: &str = "input\n";
@@ -34,12 +39,19 @@ pub fn end_text(end: End) -> String {
 }
 
 /// n and the parts behind the header, or nothing where the printer says `input`. The header begins with n and the
-/// lengths of the parts, the tree's and the sheet's first.
+/// lengths of the parts.
 pub fn split_input<const PARTS: usize>(input: &[u8], header: usize) -> Option<(u16, [&[u8]; PARTS])> {
+    let parts = split_parts(input, header, LEVELS_FIELD)?;
+    Some((read_16(input, 0), parts))
+}
+
+/// The parts behind the header, or nothing where there is no header with parts of its lengths. The lengths are 16-bit
+/// fields of the header from `first_length` on, the tree's and the sheet's first.
+pub fn split_parts<const PARTS: usize>(input: &[u8], header: usize, first_length: usize) -> Option<[&[u8]; PARTS]> {
     if input.len() < header {
         return None;
     }
-    let lengths: [usize; PARTS] = from_fn(|part| read_16(input, 2 + 2 * part) as usize);
+    let lengths: [usize; PARTS] = from_fn(|part| read_16(input, first_length + 2 * part) as usize);
     let fits = lengths[0] <= TREE_STORE && lengths[1] <= SHEET_STORE;
     if !fits || input.len() != header + lengths.iter().sum::<usize>() {
         return None;
@@ -50,7 +62,7 @@ pub fn split_input<const PARTS: usize>(input: &[u8], header: usize) -> Option<(u
         rest = behind;
         part
     });
-    Some((read_16(input, 0), parts))
+    Some(parts)
 }
 
 /// The text of all levels, each asked by `ask`. Refusals 20 and 25 can't occur here: the stores take any file that is
@@ -95,13 +107,13 @@ fn level_line(k: u32, answer: Answer) -> String {
 
 /// An input of the printer; the lengths are cut to 16 bits.
 pub fn printer_input(n: u16, tree: &[u8], sheet: &[u8]) -> Vec<u8> {
-    let mut input = Vec::new();
-    for field in [n, tree.len() as u16, sheet.len() as u16] {
-        input.extend(field.to_le_bytes());
-    }
-    input.extend(tree);
-    input.extend(sheet);
-    input
+    [&n.to_le_bytes()[..], &pair_input(tree, sheet)].concat()
+}
+
+/// The lengths of both files, cut to 16 bits, and the files.
+pub fn pair_input(tree: &[u8], sheet: &[u8]) -> Vec<u8> {
+    let [tree_length, sheet_length] = [tree, sheet].map(|file| (file.len() as u16).to_le_bytes());
+    [&tree_length, &sheet_length, tree, sheet].concat()
 }
 
 /// The greatest lengths are those of the greatest counts.

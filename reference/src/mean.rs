@@ -11,8 +11,8 @@ pub const TERMS: [[u32; 3]; 7] =
 /// a, b, c and d of silence in hundredths of 1: an expert who says nothing rules nothing out.
 const SILENCE: [u32; 4] = [0, 0, 100, 100];
 
-/// Units in a hundredth of 1.
-const HUNDREDTH: u128 = U as u128 / 100;
+/// Hundredths in 1.
+const HUNDRED: u32 = 100;
 
 /// a, b, c and d in units, each over the one denominator.
 #[derive(Clone, Copy, PartialEq, Eq, Debug)]
@@ -24,7 +24,7 @@ pub struct Four {
 pub fn four_numbers(entry: &Entry) -> Four {
     match entry {
         Entry::Four(numbers) => Four { numerators: numbers.map(u128::from), denominator: 1 },
-        Entry::Opinions { scores, terms } => weighted_mean(scores, terms),
+        Entry::Opinions { scores, terms } => in_units(&weighted_mean(scores, terms)),
         Entry::Fractions(fractions) => in_units(fractions),
     }
 }
@@ -35,18 +35,17 @@ fn in_units(fractions: &Fractions) -> Four {
     Four { numerators, denominator: fractions.denominator as u128 }
 }
 
-/// Scores and terms are those of the listed experts. The denominator is the total of all their scores, above 0 in an
-/// accepted sheet, where somebody spoke.
-fn weighted_mean(scores: &[u8], terms: &[u8]) -> Four {
-    let mut numerators = [0; 4];
-    let mut denominator = 0;
+/// Scores and terms are those of the listed experts. The denominator is 100 times the total of all their scores, above
+/// 0 in an accepted sheet, where somebody spoke; it and the sums are 160,000 at most.
+pub fn weighted_mean(scores: &[u8], terms: &[u8]) -> Fractions {
+    let mut mean = Fractions { denominator: 0, numerators: [0; 4] };
     for (&score, &term) in scores.iter().zip(terms) {
-        for (numerator, hundredths) in numerators.iter_mut().zip(four_of(term)) {
-            *numerator += score as u128 * hundredths as u128 * HUNDREDTH;
+        for (numerator, hundredths) in mean.numerators.iter_mut().zip(four_of(term)) {
+            *numerator += score as u32 * hundredths;
         }
-        denominator += score as u128;
+        mean.denominator += score as u32 * HUNDRED;
     }
-    Four { numerators, denominator }
+    mean
 }
 
 /// a, b, c and d of a listed expert's term in hundredths of 1.

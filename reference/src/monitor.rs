@@ -84,6 +84,11 @@ fn answer_level(state: State, stores: Stores, level: Level, mut work: WorkSlices
 
 fn judge_held<'a>(state: State, stores: Stores<'a>, level: Level) -> Result<(Tree<'a>, Sheet<'a>), Refusal> {
     refuse_if(!level.in_range(), 13, 0)?;
+    held_pair(state, stores)
+}
+
+/// The held files as their bytes stand: refusals 21 to 24.
+pub fn held_pair<'a>(state: State, stores: Stores<'a>) -> Result<(Tree<'a>, Sheet<'a>), Refusal> {
     refuse_if(state.tree_length == 0, 21, 0)?;
     refuse_if(state.sheet_length == 0, 22, 0)?;
     let tree = held_tree(state, stores.tree)?;

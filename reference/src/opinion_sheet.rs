@@ -1,8 +1,8 @@
-//! The opinion sheet's layout, and reading an accepted one.
+//! The opinion sheet's layout, reading an accepted one, and writing an entry of it.
 //! Header of 26 bytes with sixteen scores, then E entries of 17: a kind, then four numbers, sixteen terms, or a
 //! denominator with four numerators and a byte of 0.
 
-use crate::bytes::{read_16, read_24, read_32};
+use crate::bytes::{read_16, read_24, read_32, write_24, write_32};
 
 pub const LETTERS: &[u8] = b"FTS";
 pub const VERSION_PLACE: usize = 3;
@@ -50,6 +50,11 @@ pub fn read_four(file: &[u8], event: usize) -> [u32; 4] {
     [0, 1, 2, 3].map(|number| read_32(file, inside_entry(event, 4 * number)))
 }
 
+pub fn write_four(file: &mut [u8], event: usize, numbers: [u32; 4]) {
+    file[entry_place(event)] = FOUR_NUMBERS;
+    (0..4).for_each(|number| write_32(file, inside_entry(event, 4 * number), numbers[number]));
+}
+
 /// Four numerators over one denominator.
 #[derive(Clone, Copy, PartialEq, Eq, Debug)]
 pub struct Fractions {
@@ -60,6 +65,16 @@ pub struct Fractions {
 pub fn read_fractions(file: &[u8], event: usize) -> Fractions {
     let number = |number| read_24(file, fraction_place(event, number));
     Fractions { denominator: number(0), numerators: [1, 2, 3, 4].map(number) }
+}
+
+/// The denominator and the numerators are below 2 to the 24th.
+pub fn write_fractions(file: &mut [u8], event: usize, fractions: Fractions) {
+    let [a, b, c, d] = fractions.numerators;
+    file[entry_place(event)] = FRACTIONS;
+    for (number, value) in [fractions.denominator, a, b, c, d].into_iter().enumerate() {
+        write_24(file, fraction_place(event, number), value);
+    }
+    file[last_place(event)] = 0;
 }
 
 /// An opinion sheet that was judged and accepted.

@@ -2,12 +2,12 @@
 //! (U, U, U, U).
 //! A window is 10 bytes: a 16-bit event, then the first hour and the end hour, 32 bits each, since commissioning.
 
-use crate::bytes::{read_16, read_32, write_32};
+use crate::bytes::{read_16, read_32};
 use crate::cut::Level;
 use crate::end::U;
 use crate::evaluation::WorkSlices;
 use crate::monitor::{judge, question, Answer, State, Stores};
-use crate::opinion_sheet::{entry_place, inside_entry, FOUR_NUMBERS};
+use crate::opinion_sheet::write_four;
 use crate::refusal::{refuse_if, Refusal};
 
 pub const WINDOW: usize = 10;
@@ -102,8 +102,6 @@ fn judge_book(plan: Plan, events: usize) -> Result<(), Refusal> {
 fn write_sheet(held: &[u8], plan: Plan, buffer: &mut [u8]) {
     buffer[..held.len()].copy_from_slice(held);
     for (_, window) in plan.windows().filter(|(_, window)| window.is_open(plan.hour)) {
-        let event = window.event as usize;
-        buffer[entry_place(event)] = FOUR_NUMBERS;
-        (0..4).for_each(|number| write_32(buffer, inside_entry(event, 4 * number), U));
+        write_four(buffer, window.event as usize, [U; 4]);
     }
 }

@@ -1,4 +1,5 @@
-//! Generated cases: inputs of the level printer, alone and at an hour, lists of calls, and tree files.
+//! Generated cases: inputs of the level printer, alone and at an hour, pairs to be mirrored, lists of calls, and tree
+//! files.
 
 pub mod case;
 pub mod spot;
@@ -20,12 +21,14 @@ pub mod fractions;
 pub mod books;
 pub mod windows;
 pub mod silence;
+pub mod mirrors;
 pub mod call_lists;
 pub mod vector_list;
 pub mod fraction_vectors;
 pub mod step_vectors;
 pub mod window_vectors;
 pub mod silence_vectors;
+pub mod mirror_list;
 
 use crate::random::Random;
 
@@ -55,9 +58,11 @@ pub enum Kind {
     Windows,
     /// Sheets with many silent experts, one in eight with an event of which nobody speaks.
     Silence,
+    /// Pairs to be mirrored: limits, faults, answered pairs and blind changes in turn.
+    Mirrors,
 }
 
-pub const KINDS: [(&str, Kind); 12] = [
+pub const KINDS: [(&str, Kind); 13] = [
     ("valid", Kind::Valid),
     ("limits", Kind::Limits),
     ("damaged", Kind::Damaged),
@@ -70,6 +75,7 @@ pub const KINDS: [(&str, Kind); 12] = [
     ("fractions", Kind::Fractions),
     ("windows", Kind::Windows),
     ("silence", Kind::Silence),
+    ("mirrors", Kind::Mirrors),
 ];
 
 pub fn parse_kind(word: &str) -> Option<Kind> {
@@ -96,6 +102,7 @@ pub fn write_case(kind: Kind, seed: u64, index: u64) -> Vec<u8> {
         Kind::Fractions => fractions::fraction_case(random, index),
         Kind::Windows => windows::window_case(random, index),
         Kind::Silence => silence::silence_case(random, index).bytes,
+        Kind::Mirrors => mirrors::mirror_case(random, index),
     }
 }
 
@@ -112,7 +119,7 @@ fn mixed_case(random: &mut Random, index: u64) -> Vec<u8> {
 
 /// Whether the cases are inputs of the level printer.
 pub fn is_input(kind: Kind) -> bool {
-    !matches!(kind, Kind::Calls | Kind::Sets | Kind::Trees | Kind::Windows)
+    !matches!(kind, Kind::Calls | Kind::Sets | Kind::Trees | Kind::Windows | Kind::Mirrors)
 }
 
 pub fn file_name(kind: Kind, index: u64) -> String {

@@ -26,7 +26,7 @@ const HOUR: u32 = 7;
 const LEVEL: Level = Level { k: 1, n: 3 };
 
 /// Three events, one of each kind of entry.
-fn three_kinds() -> Pair {
+pub(super) fn three_kinds() -> Pair {
     let nodes = vec![Node::Event, Node::Event, Node::Event, Node::Or(vec![1, 2]), Node::And(vec![0, 3])];
     let numbers = Entry::Four([100_000_000, 200_000_001, 200_000_002, 300_000_000]);
     Pair {

@@ -5,6 +5,7 @@ use reference::cut_sets::{count_sets, list_sets};
 use reference::describe::{sheet_bytes, tree_bytes, Entry, Node};
 use reference::end::End;
 use reference::evaluation::WorkSlices;
+use reference::mirror::{mirror, Buffers};
 use reference::monitor::{drop_both, hand_in_sheet, hand_in_tree, judge, question, Answer, Counts, State, Stores};
 use reference::refusal::{refused, Refusal};
 use reference::work_windows::{question_at_hour, Plan};
@@ -121,6 +122,35 @@ impl Desk {
     /// One with a buffer for the longest sheet and slices of 1,024 places.
     pub fn answer_at_hour(&self, k: u32, n: u32, plan: Plan) -> Result<Answer, Refusal> {
         self.question_at_hour(k, n, plan, &mut [BUFFER_FILL; 17_434], &mut fresh_work(1_024, 1_024, 1_024))
+    }
+
+    /// A refusal leaves both buffers as they were, and an answer what is behind the files.
+    pub fn mirror(&self, tree: &mut [u8], sheet: &mut [u8]) -> Result<(), Refusal> {
+        let before = (tree.to_vec(), sheet.to_vec());
+        let (state, outcome) = mirror(self.state, self.stores(), Buffers { tree, sheet });
+        assert_eq!(state, self.state);
+        let State { tree_length, sheet_length } = if outcome.is_ok() { state } else { State::default() };
+        assert_eq!(
+            (&tree[tree_length..], &sheet[sheet_length..]),
+            (&before.0[tree_length..], &before.1[sheet_length..])
+        );
+        outcome
+    }
+
+    /// Both mirrored files, from buffers that just suffice.
+    pub fn mirrored_files(&self) -> (Vec<u8>, Vec<u8>) {
+        let State { tree_length, sheet_length } = self.state;
+        let (mut tree, mut sheet) = (vec![BUFFER_FILL; tree_length], vec![BUFFER_FILL; sheet_length]);
+        assert_eq!(self.mirror(&mut tree, &mut sheet), Ok(()));
+        (tree, sheet)
+    }
+
+    /// A desk to which both mirrored files were handed in.
+    pub fn mirrored(&self) -> Desk {
+        let (tree, sheet) = self.mirrored_files();
+        let mut desk = Desk::new(tree.len(), sheet.len());
+        assert_eq!((desk.tree(&tree), desk.sheet(&sheet)), (Ok(()), Ok(())));
+        desk
     }
 
     pub fn count_sets(&self) -> Result<u64, Refusal> {

@@ -30,7 +30,7 @@ pub fn cut(scores: &[u8], entry: &Entry, k: u32, n: u32) -> Cut {
 
 /// An expert of score s is heard s times, and the mean is the plain one over all that was heard: the four sums, and 100
 /// times how often somebody was heard.
-fn mean(scores: &[u8], terms: &[u8]) -> ([u128; 4], u128) {
+pub fn mean(scores: &[u8], terms: &[u8]) -> ([u128; 4], u128) {
     let heard: Vec<[u128; 4]> =
         (0..scores.len()).flat_map(|expert| vec![said(terms.get(expert)); scores[expert] as usize]).collect();
     let sum = |number: usize| heard.iter().map(|four| four[number]).sum();
@@ -65,7 +65,7 @@ pub fn bottom_up(nodes: &[Node], events: &[Fraction]) -> Vec<Fraction> {
     fractions
 }
 
-fn complement(fraction: &Fraction) -> Fraction {
+pub fn complement(fraction: &Fraction) -> Fraction {
     Fraction { numerator: fraction.denominator.minus(&fraction.numerator), denominator: fraction.denominator.clone() }
 }
 

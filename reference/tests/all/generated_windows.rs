@@ -16,7 +16,7 @@ use reference::work_windows::Plan;
 use std::collections::BTreeSet;
 
 fn check(case: &Case, index: u64) {
-    outcome_met(case, &print_hours(&case.bytes), index);
+    outcome_met(case, print_hours(&case.bytes).as_bytes(), "tree ", index);
 }
 
 #[test]

@@ -70,7 +70,7 @@ fn short_text() {
 }
 
 /// The checksum by its definition: digits in base 257, modulo a prime.
-fn sum<T: Copy + Into<u64>>(places: &[T]) -> u64 {
+pub fn sum<T: Copy + Into<u64>>(places: &[T]) -> u64 {
     let prime = 4_294_967_291;
     let mut power = 1;
     let mut total = 0;
