@@ -29,7 +29,6 @@ def made(files, signals):
     """Files that are there, whole, for the length of a `with`, and stay if it ends well; else they are removed."""
     with contextlib.ExitStack() as undo:
         for what, name, data in files:
-            signals.check()
             try:
                 make(undo, name, data)
             except OSError as error:

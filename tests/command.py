@@ -746,6 +746,7 @@ def both_written(name, ran, names, files, folder=""):
     hold(f"{name}: a line for each", ran.out == said.encode("utf-8", "surrogateescape") and ran.errors == "", ran)
     paths = [os.path.join(folder, new) for new in names]
     hold(f"{name}: both files", all(map(os.path.isfile, paths)) and [read(path) for path in paths] == [*files], ran)
+    hold(f"{name}: for others to read", all(os.stat(path).st_mode & 0o777 == 0o644 for path in paths), ran)
 
 
 class Outs:
