@@ -1146,12 +1146,14 @@ def bad_arguments(work, copy):
             copy.run("levels", "--windows", shut, "--hour", "5", *pair, "2", cwd="/", **SHUT_OUT), 2,
             "the book .*shut cannot be read: Permission denied")
     free = os.path.join(work, "open/free"), os.path.join(work, "open/other")
+    os.chmod(os.path.dirname(free[0]), 0o555)
     for name, words, said in (
             ("a mirror, a sheet that can't be read", [pair[0], shut, *free],
              "the opinion sheet .*shut cannot be read: Permission denied"),
             ("a mirror, a folder without the right to write", [*pair, *free],
              "the folder .*open cannot be written, where the mirrored tree file would go")):
         stopped(name, copy.run("mirror", *words, cwd="/", **SHUT_OUT), 2, said)
+    os.chmod(os.path.dirname(free[0]), 0o755)
 
 
 def kinds_and_links(file):
