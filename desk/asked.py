@@ -1,5 +1,5 @@
-# What is put to a program, a pair of files and a number of levels, with a book and an hour or without, or a tree file
-# alone, and what the program prints.
+# What is put to a program, a pair of files, with a number of levels or without, with a book and an hour or without, or
+# a tree file alone, and what the program prints.
 import os
 import re
 import subprocess
@@ -17,14 +17,15 @@ LAST_HOUR = 4294967295
 MOST_SETS = 100000
 
 
-class Pair:
-    """A tree file, an opinion sheet and a number of levels, for the level printer."""
+class TwoFiles:
+    """A tree file and an opinion sheet, for the mirror program."""
 
-    # What the input has between its lengths and its files.
-    hour_field = b""
+    levels = None
 
-    def __init__(self, tree_name, sheet_name, levels_word):
-        self.levels = read_number("number of levels", levels_word, LARGEST)
+    # What the input has before its lengths, and between them and its files.
+    levels_field = hour_field = b""
+
+    def __init__(self, tree_name, sheet_name):
         self.tree_name, self.tree = tree_name, read_file("tree file", tree_name)
         self.sheet_name, self.sheet = sheet_name, read_file("opinion sheet", sheet_name)
 
@@ -33,8 +34,17 @@ class Pair:
 
     def program_input(self):
         files = [data for _, _, data in self.files()]
-        numbers = (self.levels, *map(len, files))
-        return b"".join(number.to_bytes(2, "little") for number in numbers) + self.hour_field + b"".join(files)
+        lengths = b"".join(len(data).to_bytes(2, "little") for data in files)
+        return self.levels_field + lengths + self.hour_field + b"".join(files)
+
+
+class Pair(TwoFiles):
+    """The two files with a number of levels, for the level printer."""
+
+    def __init__(self, tree_name, sheet_name, levels_word):
+        self.levels = read_number("number of levels", levels_word, LARGEST)
+        self.levels_field = self.levels.to_bytes(2, "little")
+        super().__init__(tree_name, sheet_name)
 
 
 class HourPair(Pair):
@@ -134,3 +144,14 @@ def sets_text(program, tree_file, signals):
     if listed != count or not text.endswith(b"\n"):
         raise Stop(3, f"the cut set printer counted {count} sets and listed {listed}")
     return text, None
+
+
+def mirrored(title, program, pair, signals):
+    """The mirror program's text, and its two files, or None where it is one line of a refusal."""
+    text = run(title, program, pair, signals)
+    if text.startswith((b"refused ", b"input")):
+        return text, None
+    tree, sheet = text[:len(pair.tree)], text[len(pair.tree):]
+    if len(sheet) != len(pair.sheet) or (tree[:3], sheet[:3]) != (b"FTF", b"FTS"):
+        raise Stop(3, f"{title} gave neither two files of the lengths given nor a refusal")
+    return text, (tree, sheet)

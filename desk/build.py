@@ -19,11 +19,12 @@ LAST_LINES = 12
 
 UNCHANGED = "(unchanged since it was last proved)"
 
-# A program: its crate, its name in a sentence, and what it prints one of.
-Program = collections.namedtuple("Program", "crate title prints")
-LEVELS = Program("levels", "the level printer", "level")
-HOUR_LEVELS = Program("hour_levels", "the hour printer", "level")
-CUT_SETS = Program("cut_set_lines", "the cut set printer", "cut set")
+# A program: its crate, its name in a sentence, and what does not come where it is not built.
+Program = collections.namedtuple("Program", "crate title nothing")
+LEVELS = Program("levels", "the level printer", "no level is printed")
+HOUR_LEVELS = Program("hour_levels", "the hour printer", "no level is printed")
+CUT_SETS = Program("cut_set_lines", "the cut set printer", "no cut set is printed")
+MIRROR = Program("mirror_files", "the mirror program", "no file is written")
 
 
 class Desk:
@@ -31,7 +32,7 @@ class Desk:
 
     def __init__(self, home, program):
         self.home = home
-        self.crate, self.title, self.prints = program
+        self.crate, self.title, self.nothing = program
         self.check = f"rt check {self.crate}"
         self.target = os.path.join(home, "target")
         self.program = os.path.join(self.target, "bin", self.crate)
@@ -138,7 +139,7 @@ def prove(desk, rt, signals, lock):
         say(f"'{desk.check}' failed: it {status_in_words(status)}. Its last lines:")
         for line in report.last:
             say(f"  {line}")
-        raise Stop(3, f"no {desk.prints} is printed; {desk.log} has all that rt said")
+        raise Stop(3, f"{desk.nothing}; {desk.log} has all that rt said")
     if not desk.is_built():
         raise Stop(3, f"'{desk.check}' left no program at {desk.program}; {desk.log} has all that rt said")
 

@@ -3,14 +3,15 @@ import os
 import signal
 import sys
 
-from desk.asked import MOST_SETS, HourPair, Pair, TreeFile, levels_text, sets_text
-from desk.build import CUT_SETS, HOUR_LEVELS, LEVELS, up_to_date
+from desk.asked import MOST_SETS, HourPair, Pair, TreeFile, TwoFiles, levels_text, mirrored, sets_text
+from desk.build import CUT_SETS, HOUR_LEVELS, LEVELS, MIRROR, up_to_date
 from desk.child import Signals
+from desk.new_files import check_apart, check_new, made
 from desk.refusal import explain
 from desk.screen import Stop, is_terminal, print_text, say
 
 HELP = """\
-nekbrod: all levels of a fault tree, and its minimal cut sets, proved
+nekbrod: all levels of a fault tree, its minimal cut sets and its mirror, proved
 
   ./nekbrod                             the shipped example examples/fuel_supply, 10 levels
   ./nekbrod levels TREE SHEET LEVELS    a tree file, an opinion sheet, and a number of levels from 1 to 1000
@@ -18,6 +19,8 @@ nekbrod: all levels of a fault tree, and its minimal cut sets, proved
   ./nekbrod levels --windows BOOK --hour H TREE SHEET LEVELS
                                         the same at hour H, with what a book of work windows has out of service then
   ./nekbrod cut-sets TREE               the minimal cut sets of a tree file
+  ./nekbrod mirror TREE SHEET OUT_TREE OUT_SHEET
+                                        what must work: the mirror of a tree file and its sheet, as two new files
   ./nekbrod --help                      this text
   ./nekbrod --version                   the version
 
@@ -38,16 +41,26 @@ For cut-sets the header has the number of minimal cut sets, and each line after 
 events, rising. If all of these fail, the top event fails; fewer of them do not suffice. The tree may have up to 64
 basic events. More than 100000 sets are counted, and not listed. The order of the lines is left free.
 
+The mirror has AND and OR exchanged, and 1 minus each event's probability. The top probability of the two new files is
+that of the main engine working: at every level its lower end is 1 minus the upper end of TREE and SHEET, its upper end
+1 minus their lower end, each with the mark of the end that it comes from. Mirroring twice gives the tree file's bytes
+and every interval back; an entry of opinions comes back as fractions. OUT_TREE and OUT_SHEET are made, and nothing
+that exists is overwritten. Standard output has a line for each. Unless both are whole, neither is left.
+
 Or standard output has one line, 'refused R at P' or 'input': standard error then says which rule is broken, in
 which file and where, and what stands there. Records, links, entries, experts and windows are counted from 0.
 docs/REFUSALS.md has the rules, docs/FORMATS.md the files.
 
-Exit status: 0 levels or cut sets were printed; 1 a file or the number of levels was refused; 2 bad arguments;
-3 a program could not be built or run, or its text not be written; 4 the cut sets were counted, and are too many to
-be listed; 128 + n ended by the signal n (INT, TERM, HUP or QUIT), with all that it had started.
+Exit status: 0 levels or cut sets were printed, or both files of the mirror written; 1 a file or the number of levels
+was refused; 2 bad arguments, such as an OUT_TREE that exists; 3 a program could not be built or run, or its text or
+files not be written; 4 the cut sets were counted, and are too many to be listed; 128 + n ended by the signal n (INT,
+TERM, HUP or QUIT), with all that it had started.
 """
 
 EXAMPLE = ("examples/fuel_supply/tree.ftf", "examples/fuel_supply/sheet.fts", "10")
+
+# The files of a mirror, and how each comes from the one that is mirrored.
+MIRRORED = {"mirrored tree file": "AND and OR exchanged", "mirrored opinion sheet": "1 minus each probability"}
 
 # The options of a question at an hour, with their words.
 OPTIONS = {"--windows": "BOOK", "--hour": "H"}
@@ -67,7 +80,7 @@ def main(home, words):
 
 
 def run(home, words):
-    if words[-1:] in (["--help"], ["-h"]) and words[:-1] in ([], ["levels"], ["cut-sets"]):
+    if words[-1:] in (["--help"], ["-h"]) and words[:-1] in ([], ["levels"], ["cut-sets"], ["mirror"]):
         print_text(HELP.encode())
         return 0
     if words == ["--version"]:
@@ -83,10 +96,14 @@ def run(home, words):
         return levels_of(home, HOUR_LEVELS, HourPair(*hour_words(words[1:])))
     if len(words) == 2 and words[0] == "cut-sets":
         return sets_of(home, words[1])
-    if len(words) == 3 and (words[0] not in ("cut-sets", *OPTIONS) or os.path.exists(words[0])):
+    if len(words) == 5 and words[0] == "mirror":
+        return mirror_of(home, *words[1:])
+    if len(words) == 3 and (words[0] not in ("cut-sets", "mirror", *OPTIONS) or os.path.exists(words[0])):
         return levels_of(home, LEVELS, Pair(*words))
     if words[0] == "cut-sets":
         raise Stop(2, "nekbrod cut-sets takes a tree file alone; see nekbrod --help")
+    if words[0] == "mirror":
+        raise Stop(2, "nekbrod mirror takes a tree file, an opinion sheet and two new names; see nekbrod --help")
     if any(word in OPTIONS for word in words):
         raise Stop(2, "--windows BOOK and --hour H stand right after the word levels; see nekbrod --help")
     raise Stop(2, "nekbrod takes a tree file, an opinion sheet and a number of levels, or nothing; see nekbrod --help")
@@ -147,6 +164,30 @@ def sets_of(home, tree):
         return 4
     if is_terminal(sys.stdout) and is_terminal(sys.stderr):
         say("each line is a minimal cut set: the numbers of the basic events that fail the top event together")
+    return 0
+
+
+def mirror_of(home, tree, sheet, *names):
+    pair = TwoFiles(tree, sheet)
+    for what, name in zip(MIRRORED, names):
+        check_new(what, name)
+    check_apart(*names)
+    with Signals() as signals:
+        with up_to_date(MIRROR, home, signals) as program:
+            text, files = mirrored(MIRROR.title, program, pair, signals)
+        signals.check()
+        if files:
+            return write_mirror(names, files, signals)
+    print_text(text)
+    return refused(home, pair, text)
+
+
+def write_mirror(names, files, signals):
+    lines = "".join(f"wrote {name}: the {what}, {how}\n" for name, (what, how) in zip(names, MIRRORED.items()))
+    # A reader that has gone is a failure like a full disk here, so that then too no file is left.
+    signal.signal(signal.SIGPIPE, signal.SIG_IGN)
+    with made(zip(MIRRORED, names, files), signals):
+        print_text(lines.encode("utf-8", "surrogateescape"))
     return 0
 
 

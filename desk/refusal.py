@@ -52,7 +52,7 @@ def row_of(rows, number, part):
 
 
 def too_long(asked):
-    """What the level printer and the hour printer do not let in at all."""
+    """What the level printer, the hour printer and the mirror program do not let in at all."""
     faults = []
     for (what, name, data), most in zip(asked.files(), (LONGEST_TREE, LONGEST_SHEET)):
         if len(data) > most:

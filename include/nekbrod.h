@@ -2,9 +2,10 @@
  * Nekbrod, a proved risk monitor for fault trees: the calls for C and C++.
  *
  * The monitor holds one tree file and one opinion sheet, answers a level with an enclosure of the top probability, at
- * an hour of a book of work windows too, and lists the tree's minimal cut sets. It has no memory of its own: what it
- * holds is two lengths, which the caller keeps between calls, and the bytes of both files, which lie in two stores that
- * the caller lends at each call. Calls that write to different memory may run at the same time.
+ * an hour of a book of work windows too, lists the tree's minimal cut sets, and writes the mirror of both files, which
+ * is of what must work. It has no memory of its own: what it holds is two lengths, which the caller keeps between
+ * calls, and the bytes of both files, which lie in two stores that the caller lends at each call. Calls that write to
+ * different memory may run at the same time.
  *
  * Each function is proved to answer and to write what is said here for every content of the memory it is lent
  * (docs/PROMISES.md). That memory is the caller's part, and nothing checks it:
@@ -33,7 +34,7 @@ extern "C" {
 #define NEKBROD_ONE 1000000000u
 /*
  * No accepted tree file and no accepted opinion sheet is longer: stores of these lengths never cause refusal 20, nor a
- * buffer of the second one refusal 30.
+ * buffer of the second one refusal 30, nor two buffers of these refusal 31.
  */
 #define NEKBROD_LARGEST_TREE 7175u
 #define NEKBROD_LARGEST_SHEET 17434u
@@ -91,6 +92,8 @@ typedef struct nekbrod_state {
                                     is not below the held tree's number of basic events: offset of the event; a
                                     window's end hour is not after its first hour: offset of the end hour */
 #define NEKBROD_SHORT_BUFFER 30u /* the buffer is shorter than the held sheet: 0 */
+/* Of the mirror; 21 to 24 are of it too. */
+#define NEKBROD_SHORT_MIRROR 31u /* a buffer is shorter than its held file: 0 */
 
 /*
  * Why a call was refused, by one of the numbers above. Number 0: it was not refused, and the place is 0. A refused call
@@ -101,7 +104,7 @@ typedef struct nekbrod_refusal {
     size_t place;
 } nekbrod_refusal;
 
-/* What a hand-in answers: the state after it, and the refusal. */
+/* What a hand-in or a mirroring answers: the state after it, as it went in after a mirroring, and the refusal. */
 typedef struct nekbrod_answer {
     nekbrod_state state;
     nekbrod_refusal refusal;
@@ -230,6 +233,27 @@ nekbrod_set_count nekbrod_count_cut_sets(nekbrod_state state, const uint8_t *tre
  */
 nekbrod_listing nekbrod_list_cut_sets(nekbrod_state state, const uint8_t *tree_store, size_t tree_store_len,
                                       uint64_t *sets, size_t sets_len);
+
+/*
+ * Mirrors the held pair: writes the tree file and the opinion sheet of what must work. Their top probability is that of
+ * the top event not happening, the main engine working.
+ * Reads both stores as far as the held lengths: both files are judged afresh, as their bytes stand. Refused by 21, 22,
+ * 23 for the tree, 23 for the sheet, 24, or 31 where either buffer is shorter than its held file, in that order, before
+ * anything is written.
+ * Answered, the mirrored files stand at the front of the two buffers, each as long as the held one. The rest of both
+ * buffers stays, and so do the stores and the state. The tree has AND and OR exchanged, and all else as held. The sheet
+ * has its header as held. An entry of four numbers a, b, c and d has NEKBROD_ONE minus d, minus c, minus b and minus a.
+ * A fraction entry has its denominator, and that minus d, minus c, minus b and minus a. An entry of opinions becomes
+ * the fraction entry of its mean, mirrored likewise: its denominator is 100 times the score of all listed experts.
+ * The mirrored files are accepted and belong together: the same state with the two buffers as stores is a monitor that
+ * holds them. At each level and node its lower end is NEKBROD_ONE minus the upper end of the held pair, and exact where
+ * that is; its upper end is NEKBROD_ONE minus the lower end of the held pair, and exact where that is.
+ * Mirroring twice restores the bytes of the tree file, and every interval and mark at each level and node. It does not
+ * restore the bytes of an entry of opinions, which stays a fraction entry.
+ */
+nekbrod_answer nekbrod_mirror(nekbrod_state state, const uint8_t *tree_store, size_t tree_store_len,
+                              const uint8_t *sheet_store, size_t sheet_store_len, uint8_t *tree_buffer,
+                              size_t tree_buffer_len, uint8_t *sheet_buffer, size_t sheet_buffer_len);
 
 #ifdef __cplusplus
 }

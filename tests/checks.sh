@@ -6,6 +6,8 @@ export LC_ALL
 
 root=$(CDPATH='' cd "$(dirname "$0")/.." && pwd -P) || exit 2
 examples=$root/examples
+road_tree=$examples/road_trip/tree.ftf
+road_sheet=$examples/road_trip/sheet.fts
 levels=$root/target/bin/levels
 reference=$root/reference/target/release/reference
 
@@ -55,4 +57,19 @@ two_bytes() { # NUMBER
 
 zeros() { # COUNT
     head -c "$1" /dev/zero
+}
+
+# The true lengths of two files, and the files.
+two_files() { # TREE SHEET
+    two_bytes "$(wc -c <"$1")"
+    two_bytes "$(wc -c <"$2")"
+    cat "$1" "$2"
+}
+
+# Two lengths, and as many bytes as they say.
+two_lengths() { # TREE-LENGTH SHEET-LENGTH
+    two_bytes "$1"
+    two_bytes "$2"
+    { cat "$road_tree"; zeros "$1"; } | head -c "$1"
+    { cat "$road_sheet"; zeros "$2"; } | head -c "$2"
 }

@@ -1,10 +1,11 @@
-# The command at the root: every shipped example, levels to the byte and cut sets by brute force, its refusals in words,
-# a maker's figures, hours of a book, bad arguments, building, signals.
+# The command at the root: every shipped example, levels to the byte, cut sets by brute force and its mirror by the law,
+# its refusals in words, a maker's figures, hours of a book, files of a mirror, bad arguments, building, signals.
 # All but the shipped examples run in a copy, where a stand-in for rt is on the path.
 import itertools
 import os
 import pty
 import re
+import resource
 import shutil
 import signal
 import subprocess
@@ -16,12 +17,14 @@ ROOT = os.path.dirname(os.path.dirname(os.path.realpath(__file__)))
 LEVELS = os.path.join(ROOT, "target/bin/levels")
 HOUR_LEVELS = os.path.join(ROOT, "target/bin/hour_levels")
 CUT_SETS = os.path.join(ROOT, "target/bin/cut_set_lines")
-PROGRAMS = {"levels": LEVELS, "hour_levels": HOUR_LEVELS, "cut_set_lines": CUT_SETS}
+MIRROR = os.path.join(ROOT, "target/bin/mirror_files")
+PROGRAMS = {"levels": LEVELS, "hour_levels": HOUR_LEVELS, "cut_set_lines": CUT_SETS, "mirror_files": MIRROR}
 ROAD = [os.path.join(ROOT, "examples/road_trip", name) for name in ("tree.ftf", "sheet.fts")]
 FUEL = [os.path.join(ROOT, "examples/fuel_supply", name) for name in ("tree.ftf", "sheet.fts")]
 PUMPS = [os.path.join(ROOT, "examples/cooling_pumps", name) for name in ("tree.ftf", "sheet.fts")]
 PLAN = os.path.join(ROOT, "examples/cooling_pumps/windows.ftw")
 LAST_HOUR = 4294967295
+UNIT = 1000000000
 NOBODY = 65534
 # A run that takes longer than this hangs.
 LONGEST = 30
@@ -147,6 +150,7 @@ levels: printer io
 printer: theory bytes
 hour_levels: printer io
 cut_set_lines: printer io
+mirror_files: printer io
 other: theory
 """
 
@@ -244,8 +248,8 @@ exit {status}
         os.chmod(source, 0o755)
         os.utime(source, (946684800, 946684800))
 
-    def start(self, *words, **more):
-        env = {"PATH": self.tools, "LC_ALL": "C", "TMPDIR": self.temporary}
+    def start(self, *words, env=None, **more):
+        env = {"PATH": self.tools, "LC_ALL": "C", "TMPDIR": self.temporary, **(env or {})}
         return start([self.command, *words], env=env, **more)
 
     def run(self, *words, **more):
@@ -276,6 +280,30 @@ def shipped_examples():
             sets_printed(name, ran, read(folder + "/tree.ftf"))
 
 
+def turned(line):
+    """A level's line of the mirrored pair: each end 1 minus the other one, with its mark."""
+    k, lower, lower_mark, upper, upper_mark = line.split()
+    return f"{k} {UNIT - int(upper)} {upper_mark} {UNIT - int(lower)} {lower_mark}"
+
+
+def shipped_mirrors(work):
+    """Of each example the mirror has its levels turned over, mirrored twice its tree and all its levels are back."""
+    command = os.path.join(ROOT, "nekbrod")
+    for name, n in (("road_trip", "2"), ("fuel_supply", "10"), ("container_seal", "100"), ("cooling_pumps", "10")):
+        folder = os.path.join(ROOT, "examples", name)
+        pair = folder + "/tree.ftf", folder + "/sheet.fts"
+        once, twice = ([os.path.join(work, name + end) for end in (f"{turn}.ftf", f"{turn}.fts")] for turn in (1, 2))
+        for given, new in (pair, once), (once, twice):
+            ran = run([command, "mirror", *given, *new])
+            hold(f"{name}, mirrored: status", ran.status == 0 and ran.errors == "", ran)
+        header, *lines = read(f"{folder}/levels-{n}.txt").decode().splitlines()
+        ran = run([command, *once, n])
+        hold(f"{name}, mirrored: every level", ran.out.decode().splitlines() == [header, *map(turned, lines)], ran)
+        printed(f"{name}, mirrored twice", run([command, *twice, n]), read(f"{folder}/levels-{n}.txt"))
+        hold(f"{name}, mirrored: another tree", read(once[0]) != read(pair[0]))
+        hold(f"{name}, mirrored twice: the tree's bytes", read(twice[0]) == read(pair[0]))
+
+
 def calls(work, copy):
     ran = copy.run()
     printed("no arguments", ran, FUEL_LEVELS)
@@ -297,13 +325,15 @@ def calls(work, copy):
     printed("the word levels", ran, ROAD_LEVELS)
     hold("the word levels: no errors", ran.errors == "", ran)
     hold("nothing written beside the modules", sorted(os.listdir(copy.home + "/desk")) == [
-        "__init__.py", "asked.py", "build.py", "child.py", "main.py", "refusal.py", "screen.py"])
-    for words in (["--help"], ["-h"], ["levels", "--help"], ["cut-sets", "--help"], ["cut-sets", "-h"]):
+        "__init__.py", "asked.py", "build.py", "child.py", "main.py", "new_files.py", "refusal.py", "screen.py"])
+    for words in (["--help"], ["-h"], ["levels", "--help"], ["cut-sets", "--help"], ["cut-sets", "-h"],
+                  ["mirror", "--help"], ["mirror", "-h"]):
         ran = copy.run(*words)
         hold(f"{words}: status", ran.status == 0, ran)
         for text in (b"nekbrod TREE SHEET LEVELS", b"nekbrod levels TREE SHEET LEVELS", b"nekbrod cut-sets TREE",
-                     b"nekbrod levels --windows BOOK --hour H TREE SHEET LEVELS", b"--version", b"Exit status",
-                     b"128 + n"):
+                     b"nekbrod levels --windows BOOK --hour H TREE SHEET LEVELS",
+                     b"nekbrod mirror TREE SHEET OUT_TREE OUT_SHEET", b"main engine working", b"1 minus the upper end",
+                     b"comes back as fractions", b"--version", b"Exit status", b"128 + n"):
             hold(f"{words}: {text}", text in ran.out, ran)
         hold(f"{words}: no errors", ran.errors == "", ran)
     ran = copy.run("--version")
@@ -320,8 +350,8 @@ def calls(work, copy):
 
 def file_names(work, copy):
     names = os.path.join(work, "names")
-    for name in ("the tree", "-n", "--help", "--version", "levels", "cut-sets", "--windows", "--hour", "%s\\n\\1",
-                 "$HOME *", "it's", '"', "\udcff\u00e9"):
+    for name in ("the tree", "-n", "--help", "--version", "levels", "cut-sets", "mirror", "--windows", "--hour",
+                 "%s\\n\\1", "$HOME *", "it's", '"', "\udcff\u00e9"):
         write(os.path.join(names, name), read(ROAD[0]))
         write(os.path.join(names, name + ".fts"), read(ROAD[1]))
         printed(f"the file name {name!r}", copy.run(name, name + ".fts", "2", cwd=names), ROAD_LEVELS)
@@ -330,6 +360,9 @@ def file_names(work, copy):
         write(os.path.join(names, name + ".ftw"), b"")
         ran = copy.run("levels", "--windows", name + ".ftw", "--hour", "2", name, name + ".fts", "2", cwd=names)
         printed(f"a book and the file name {name!r}", ran, ROAD_LEVELS)
+        new = f"{name}.new", f"{name}.sheet"
+        ran = copy.run("mirror", name, f"{name}.fts", *new, cwd=names)
+        both_written(f"the new name {new[0]!r}", ran, new, mirror_of_road(), names)
     ran = copy.run("\udcff.none", "x", "2", cwd=names)
     stopped("a name that is not UTF-8", ran, 2, "there is no tree file \udcff.none$")
 
@@ -684,6 +717,347 @@ def other_hour_printers(copy, names, ask):
              and "could not be written: No space left" in ran.errors, ran)
 
 
+AND_OF_TWO = tree([EVENT, (0, 1, 0), (1, 0, 2)], [0, 1])
+MIRRORED = [
+    # Name, tree and sheet, and by hand the mirror of both.
+    ("four numbers", ONE, GOOD, ONE, sheet([four(UNIT - 2, UNIT - 1, UNIT - 1, UNIT)])),
+    ("an OR of a maker's figures and certainty", TWO, sheet([fractions(1250, 1, 3, 3, 6), four(*[UNIT] * 4)]),
+     AND_OF_TWO, sheet([fractions(1250, 1244, 1247, 1247, 1249), four(0, 0, 0, 0)])),
+    # Scores 2 and 1, Low and silence: (14, 26, 126, 138) over 300 (docs/FORMATS.md).
+    ("an AND of opinions", AND_OF_TWO, sheet([terms(2), terms(7, 1)], scores=[2, 1]), TWO,
+     sheet([fractions(300, 162, 174, 274, 286), fractions(300, 92, 104, 104, 116)], scores=[2, 1])),
+    ("the largest total score", ONE, sheet([terms(*[4] * 15, last=4)], scores=[100] * 16), ONE,
+     sheet([fractions(160000, 56000, 80000, 80000, 104000)], scores=[100] * 16)),
+]
+
+
+def mirror_of_road():
+    """By hand: the AND is an OR, and the OR an AND; 0.8, 0.1 and 0.4 are 0.2, 0.9 and 0.6."""
+    records = [(0, 0, 0), (0, 1, 0), (0, 2, 0), (1, 0, 2), (2, 2, 2)]
+    entries = [four(*[number] * 4) for number in (200000000, 900000000, 600000000)]
+    return tree(records, [1, 2, 0, 3], number=1), sheet(entries, number=1)
+
+
+def both_written(name, ran, names, files, folder=""):
+    """Both new files with these bytes, a line for each, and nothing else said."""
+    said = "".join(f"wrote {new}: {text}\n" for new, text in zip(names, (
+        "the mirrored tree file, AND and OR exchanged", "the mirrored opinion sheet, 1 minus each probability")))
+    hold(f"{name}: status", ran.status == 0, ran)
+    hold(f"{name}: a line for each", ran.out == said.encode("utf-8", "surrogateescape") and ran.errors == "", ran)
+    paths = [os.path.join(folder, new) for new in names]
+    hold(f"{name}: both files", all(map(os.path.isfile, paths)) and [read(path) for path in paths] == [*files], ran)
+    hold(f"{name}: for others to read", all(os.stat(path).st_mode & 0o777 == 0o644 for path in paths), ran)
+
+
+class Outs:
+    """Two new names in a folder of their own, and what may stand there."""
+
+    def __init__(self, copy, folder):
+        self.copy, self.folder = copy, folder
+        self.names = os.path.join(folder, "out tree"), os.path.join(folder, "out sheet")
+        self.clear()
+
+    def clear(self):
+        shutil.rmtree(self.folder, ignore_errors=True)
+        os.makedirs(self.folder)
+
+    def words(self):
+        return ["mirror", *ROAD, *self.names]
+
+    def run(self, **more):
+        return self.copy.run(*self.words(), **more)
+
+    def start(self, **more):
+        return self.copy.start(*self.words(), **more)
+
+    def left(self):
+        """All that stands in the folder, with its bytes."""
+        return {name: read(os.path.join(self.folder, name)) for name in sorted(os.listdir(self.folder))}
+
+    def failed(self, name, ran, status, words, left=()):
+        """One line that says why, and only these files with these bytes in the folder."""
+        stopped(name, last_of(ran), status, words)
+        hold(f"{name}: no file left", self.left() == dict(left), ran)
+
+
+def mirrors(work, copy):
+    outs = Outs(copy, os.path.join(work, "mirrors/new"))
+    pair = [os.path.join(work, "mirrors", name) for name in ("a tree", "a sheet")]
+    both_written("a mirror", outs.run(), outs.names, mirror_of_road())
+    hold("a mirror: rt is asked", copy.calls()[-1:] == ["check mirror_files"])
+    outs.failed("a mirror again", outs.run(), 2, "out tree exists and is not overwritten", outs.left())
+    for name, *files in MIRRORED:
+        outs.clear()
+        for file, data in zip(pair, files):
+            write(file, data)
+        both_written(f"the mirror of {name}", copy.run("mirror", *pair, *outs.names), outs.names, files[2:])
+    refused_mirrors(pair, outs)
+    what_exists(work, outs)
+    unwritten_mirrors(outs)
+    other_mirror_programs(outs)
+    paused_mirrors(work, outs)
+    mirrors_at_once(outs)
+
+
+def refused_mirrors(pair, outs):
+    """Each refusal of the two files in words, and no file."""
+    rows = table_rows()
+    files = {"tree": f"The tree file {pair[0]}", "sheet": f"The opinion sheet {pair[1]}"}
+    outs.clear()
+
+    def ask(name, tree_bytes, sheet_bytes, line, sentence, advice):
+        write(pair[0], tree_bytes)
+        write(pair[1], sheet_bytes)
+        ran = outs.copy.run("mirror", *pair, *outs.names)
+        refused(f"mirror: {name}", ran, line, sentence, advice)
+        hold(f"mirror: {name}: no file", outs.left() == {}, ran)
+
+    for name, tree_bytes, sheet_bytes, _, line, which, file, found in REFUSED:
+        number, place = int(line.split()[1]), line.split()[3]
+        cells = rows[number][which]
+        ask(name, tree_bytes, sheet_bytes, line,
+            f"refusal {number}: {cells[0]}. {files[file]}, byte {place}: {found}", f"aboard: {cells[3]}")
+    for name, tree_bytes, sheet_bytes, _, line, found in QUESTIONED:
+        if line == "refused 24 at 0":
+            ask(name, tree_bytes, sheet_bytes, line, f"refusal 24: {rows[24][0][0]}. {found}",
+                f"aboard: {rows[24][0][3]}")
+    look = "see that each file is the right one"
+    ask("a tree of 7,176 bytes", bytes(7176), GOOD, "input",
+        f"the tree file {pair[0]} has 7176 bytes; allowed: at most 7175", look)
+    ask("a sheet of 17,435 bytes", ONE, bytes(17435), "input",
+        f"the opinion sheet {pair[1]} has 17435 bytes; allowed: at most 17434", look)
+
+
+def stand_at(name):
+    """For each kind of thing that may have a name already: what puts it there."""
+    return (("a file", lambda: write(name, "another's")), ("an empty file", lambda: write(name, "")),
+            ("a folder", lambda: os.mkdir(name)), ("a pipe", lambda: os.mkfifo(name)),
+            *((f"a link to {what}", lambda target=target: os.symlink(target, name))
+              for what, target in (("a file", ROAD[0]), ("nothing", "nothing"), ("itself", name))))
+
+
+def state_of(name):
+    """What has a name, without following a link: its kind, its time, its length and where it lies."""
+    found = os.lstat(name)
+    return found.st_mode, found.st_mtime_ns, found.st_size, found.st_ino
+
+
+def what_exists(work, outs):
+    """Whatever has one of the names stays as it is, and rt is not asked; nor is it for one name given twice."""
+    called = len(outs.copy.calls())
+    for which, what in enumerate(("mirrored tree file", "mirrored opinion sheet")):
+        name = outs.names[which]
+        for kind, put in stand_at(name):
+            outs.clear()
+            put()
+            before = state_of(name)
+            ran = outs.run()
+            stopped(f"{kind} as {what}", ran, 2, f"{name} exists and is not overwritten: the {what} needs a new name$")
+            hold(f"{kind} as {what}: untouched", state_of(name) == before, ran)
+            hold(f"{kind} as {what}: nothing beside it", os.listdir(outs.folder) == [os.path.basename(name)], ran)
+    outs.clear()
+    os.symlink(outs.folder, os.path.join(work, "mirrors/link"))
+    for kind, other in (("as it is", outs.names[0]), ("another way", f"{outs.folder}/../new/out tree"),
+                        ("through a link", os.path.join(work, "mirrors/link/out tree")),
+                        ("from here", "out tree")):
+        ran = outs.copy.run("mirror", *ROAD, outs.names[0], other, cwd=outs.folder)
+        outs.failed(f"one name twice, {kind}", ran, 2, "name one file, and two are written$")
+    hold("what exists: rt is not asked", len(outs.copy.calls()) == called)
+
+
+def unwritten_mirrors(outs):
+    """A file that appears, a folder that goes, no room, once the names were found free: no file of this run stays."""
+    tree_name, sheet_name = outs.names
+
+    def meanwhile(name, commands, words, left=()):
+        outs.clear()
+        outs.copy.change(f"#!/bin/sh\n{commands}\nexec '{MIRROR}'\n", "mirror_files")
+        outs.failed(name, outs.run(), 3, words, left)
+
+    meanwhile("a tree file that appears", f"echo mine >'{tree_name}'",
+              "the mirrored tree file .*out tree could not be written: File exists$", {"out tree": b"mine\n"})
+    meanwhile("a sheet that appears", f"echo mine >'{sheet_name}'",
+              "the mirrored opinion sheet .*out sheet could not be written: File exists$", {"out sheet": b"mine\n"})
+    outs.clear()
+    outs.copy.change(f"#!/bin/sh\nrmdir '{outs.folder}'\nexec '{MIRROR}'\n", "mirror_files")
+    stopped("a folder that goes", last_of(outs.run()), 3, "out tree could not be written: No such file or directory$")
+    hold("a folder that goes: not made", not os.path.exists(outs.folder))
+    # The tree file has 42 bytes and the sheet 77; the command's limit is lowered once it has put both to the program.
+    for room, what in (20, "mirrored tree file"), (60, "mirrored opinion sheet"):
+        outs.clear()
+        outs.copy.stand_in()
+        outs.copy.change(waiting(outs.copy, "program"), "mirror_files")
+        process = outs.start()
+        until(lambda: outs.copy.note("program") != "")
+        resource.prlimit(process.pid, resource.RLIMIT_FSIZE, (room, room))
+        write(outs.copy.notes + "/go", "")
+        outs.failed(f"room for {room} bytes", ended(process), 3, f"the {what} .* could not be written: File too large$")
+    as_before(outs)
+    if os.path.exists("/dev/full"):
+        with open("/dev/full", "wb") as full:
+            outs.failed("lines to a full disk", outs.run(stdout=full), 3, "text could not be written: No space left")
+    outs.failed("lines to a closed output", outs.run(stdout=None, preexec_fn=lambda: os.close(1)), 3,
+                "text could not be written: standard output is closed")
+    reader, writer = os.pipe()
+    os.close(reader)
+    outs.failed("lines to a reader that has gone", outs.run(stdout=writer), 3, "text could not be written: Broken pipe")
+    os.close(writer)
+
+
+def waiting(copy, note):
+    """A mirror program that notes its id, and goes on once it is told to."""
+    return (f"#!/bin/sh\necho $$ >'{copy.notes}/{note}'\nwhile ! cat '{copy.notes}/go' >/dev/null 2>&1; do sleep 0.02; "
+            f"done\nexec '{MIRROR}'\n")
+
+
+def as_before(outs):
+    """The built mirror program again, and no file."""
+    outs.copy.stand_in()
+    outs.copy.change(read(MIRROR), "mirror_files")
+    outs.clear()
+    hold("the mirror program again", outs.run().status == 0)
+    outs.clear()
+
+
+def other_mirror_programs(outs):
+    neither = "neither two files of the lengths given nor a refusal$"
+    files = mirror_of_road()
+    for name, data in (("nothing", b""), ("something else", b"hello\n"), ("the tree file alone", files[0]),
+                       ("a byte too few", files[0] + files[1][:-1]), ("a byte too many", b"".join(files) + b"\n"),
+                       ("the sheet first", b"".join(reversed(files))), ("two trees", files[0] + files[0] + bytes(35))):
+        outs.clear()
+        write(outs.copy.notes + "/text", data)
+        outs.copy.change(f"#!/bin/sh\nexec cat '{outs.copy.notes}/text' # {name}\n", "mirror_files")
+        outs.failed(f"a mirror program that prints {name}", outs.run(), 3, f"the mirror program gave {neither}")
+    outs.copy.change(f"#!/bin/sh\n'{MIRROR}'\nexit 7\n", "mirror_files")
+    outs.failed("a mirror program that fails", outs.run(), 3, "the mirror program ended with status 7$")
+    for line in ("refused 31 at 0", "refused 13 at 0", "refused x"):
+        outs.copy.change(f"#!/bin/sh\necho {line}\n", "mirror_files")
+        ran = outs.run()
+        hold(f"a mirror program that says '{line}'", ran.status == 1 and ran.out == line.encode() + b"\n"
+             and "docs/REFUSALS.md" in ran.lines[-1] and "Traceback" not in ran.errors and outs.left() == {}, ran)
+        if line == "refused 31 at 0":
+            said = f"refusal 31: {table_rows()[31][0][0]}. Its place is 0."
+            hold("refusal 31 in the page's words", said in ran.errors, ran)
+    outs.copy.change(f"#!/bin/sh\ncat >'{outs.copy.notes}/input'\necho refused 24 at 0\n", "mirror_files")
+    ran = outs.run()
+    given = [read(name) for name in ROAD]
+    hold("the mirror program's input",
+         read(outs.copy.notes + "/input") == two(len(given[0])) + two(len(given[1])) + b"".join(given), ran)
+    as_before(outs)
+
+
+# Stops the command each time that it has stored a file: it notes how many there are, and waits to be told to go on.
+PAUSE = """import os, time
+store, stored = os.fsync, []
+def fsync(file):
+    store(file)
+    stored.append(file)
+    notes = os.environ["NOTES"]
+    open(os.path.join(notes, "stored"), "w").write(str(len(stored)))
+    while not os.path.exists(os.path.join(notes, f"on{len(stored)}")):
+        time.sleep(0.02)
+os.fsync = fsync
+"""
+
+
+class Paused:
+    """A mirror that stops after it has stored each file."""
+
+    def __init__(self, outs, modules):
+        self.copy = outs.copy
+        outs.clear()
+        self.copy.stand_in()
+        self.process = outs.start(env={"PYTHONPATH": modules, "NOTES": self.copy.notes})
+
+    def after(self, count):
+        hold(f"a mirror that stops: {count} stored", until(lambda: self.copy.note("stored") == str(count)))
+
+    def go_on(self):
+        for count in (1, 2):
+            write(f"{self.copy.notes}/on{count}", "")
+        return ended(self.process)
+
+
+def paused_mirrors(work, outs):
+    """Signals and others' files while the two are being written."""
+    modules = os.path.dirname(write(os.path.join(work, "pause/sitecustomize.py"), PAUSE))
+    both_written("a mirror that goes on", Paused(outs, modules).go_on(), outs.names, mirror_of_road())
+    for number in (signal.SIGINT, signal.SIGTERM, signal.SIGHUP, signal.SIGQUIT):
+        for stored in (1, 2):
+            paused = Paused(outs, modules)
+            write(f"{outs.copy.notes}/on{stored - 1}", "")
+            paused.after(stored)
+            hold("a mirror that stops: its files", len(outs.left()) == stored)
+            paused.process.send_signal(number)
+            name = signal.Signals(number).name
+            outs.failed(f"{name} after {stored} files", paused.go_on(), 128 + number, f"^nekbrod: ended by {name}$")
+    paused = Paused(outs, modules)
+    paused.after(1)
+    write(outs.names[1], "another's")
+    outs.failed("a sheet that appears between the files", paused.go_on(), 3,
+                "out sheet could not be written: File exists$", {"out sheet": b"another's"})
+    paused = Paused(outs, modules)
+    paused.after(1)
+    os.remove(outs.names[0])
+    write(outs.names[0], "another's")
+    paused.process.send_signal(signal.SIGTERM)
+    outs.failed("another's file in place of the first", paused.go_on(), 143, "ended by SIGTERM",
+                {"out tree": b"another's"})
+    signals_of_mirrors(outs)
+
+
+def signals_of_mirrors(outs):
+    """While the program runs nothing is written yet, and it goes with the command."""
+    for number in (signal.SIGINT, signal.SIGTERM, signal.SIGHUP):
+        outs.clear()
+        outs.copy.stand_in()
+        outs.copy.change(waiting(outs.copy, "program"), "mirror_files")
+        process = outs.start()
+        until(lambda: outs.copy.note("program").endswith("\n"))
+        process.send_signal(number)
+        name = signal.Signals(number).name
+        outs.failed(f"{name} while it is mirrored", ended(process), 128 + number, f"ended by {name}$")
+        hold(f"{name} while it is mirrored: nothing runs", not is_alive(outs.copy.note("program").strip()))
+    as_before(outs)
+
+
+def mirrors_at_once(outs):
+    """Of runs with the same two names one writes both files, and no other touches them."""
+    outs.copy.change(waiting(outs.copy, "program"), "mirror_files")
+    one = outs.start()
+    until(lambda: outs.copy.note("program") != "")
+    other = outs.start()
+    # The other has found both names free by then, and waits for the one.
+    time.sleep(2)
+    write(outs.copy.notes + "/go", "")
+    one, other = ended(one), ended(other)
+    both_written("two mirrors: the one", last_of(one, 0), outs.names, mirror_of_road())
+    stopped("two mirrors: the other", last_of(other), 3, "out tree could not be written: File exists$")
+    as_before(outs)
+    runs = [ended(process) for process in [outs.start() for _ in range(6)]]
+    hold("six mirrors: one writes", sorted(ran.status for ran in runs)[0:2] in ([0, 2], [0, 3]))
+    hold("six mirrors: both files", list(outs.left().values()) == [*reversed(mirror_of_road())])
+
+
+def bad_mirrors(work, copy, none, long):
+    """Names of a mirror that are not taken, whatever the files are; nothing is written."""
+    free = os.path.join(work, "free"), os.path.join(work, "free too")
+    for name, words, said in (
+            ("no such tree", [none, ROAD[1], *free], "there is no tree file .*none$"),
+            ("no such sheet", [ROAD[0], none, *free], "there is no opinion sheet .*none$"),
+            ("a folder as a tree", [work, ROAD[1], *free], "the tree file .* is not a file"),
+            ("a sheet of 65,536 bytes", [ROAD[0], long, *free], "the opinion sheet .* is longer than 65535 bytes"),
+            ("an empty new name", [*ROAD, "", free[1]], "the mirrored tree file needs a name, not ''$"),
+            ("a second new name that is empty", [*ROAD, free[0], ""], "mirrored opinion sheet needs a name, not ''$"),
+            ("a new name that is a folder's", [*ROAD, free[0] + "/", free[1]], "tree file needs a name, not '.*/'$"),
+            ("no such folder", [*ROAD, none + "/x", free[1]], "there is no folder .*none for the mirrored tree file$"),
+            ("no such second folder", [*ROAD, free[0], none + "/x"], "folder .*none for the mirrored opinion sheet$"),
+            ("a file as a folder", [*ROAD, long + "/x", free[1]], "is no folder .*long for the mirrored tree file$")):
+        stopped(f"mirror, {name}", copy.run("mirror", *words), 2, said)
+    hold("bad mirrors: nothing written", not any(map(os.path.lexists, free)))
+
+
 def bad_hours(work, copy, none, long):
     """Words of an hour that are not taken."""
     after = "stand right after the word levels; see nekbrod --help$"
@@ -733,7 +1107,9 @@ def bad_arguments(work, copy):
                         ("version and more", ["--version", "2"]), ("cut-sets alone", ["cut-sets"]),
                         ("cut-sets and two files", ["cut-sets", *ROAD]),
                         ("cut-sets and three", ["cut-sets", *ROAD, "2"]),
-                        ("help after a file", ["cut-sets", ROAD[0], "--help"])):
+                        ("help after a file", ["cut-sets", ROAD[0], "--help"]),
+                        *((f"mirror and {count} words", ["mirror", *ROAD, "x", "y", "z"][:count + 1])
+                          for count in (0, 1, 2, 3, 5))):
         stopped(name, copy.run(*words), 2, "nekbrod --help")
     for n in ("", "ten", "-1", "+1", "1.5", "0x10", " 5", "5 ", "5\n", "٣", "1_0"):
         ran = copy.run(*ROAD, n)
@@ -756,6 +1132,7 @@ def bad_arguments(work, copy):
                               ("65,536 bytes", long, "the tree file .* is longer than 65535 bytes")):
         stopped(f"cut-sets, {name}", copy.run("cut-sets", file), 2, words)
     bad_hours(work, copy, none, long)
+    bad_mirrors(work, copy, none, long)
     hold("bad arguments: rt is not asked", copy.calls() == [])
     shut = write(os.path.join(work, "shut"), read(ROAD[0]))
     os.chmod(shut, 0)
@@ -768,6 +1145,15 @@ def bad_arguments(work, copy):
     stopped("a book that can't be read",
             copy.run("levels", "--windows", shut, "--hour", "5", *pair, "2", cwd="/", **SHUT_OUT), 2,
             "the book .*shut cannot be read: Permission denied")
+    free = os.path.join(work, "open/free"), os.path.join(work, "open/other")
+    os.chmod(os.path.dirname(free[0]), 0o555)
+    for name, words, said in (
+            ("a mirror, a sheet that can't be read", [pair[0], shut, *free],
+             "the opinion sheet .*shut cannot be read: Permission denied"),
+            ("a mirror, a folder without the right to write", [*pair, *free],
+             "the folder .*open cannot be written, where the mirrored tree file would go")):
+        stopped(name, copy.run("mirror", *words, cwd="/", **SHUT_OUT), 2, said)
+    os.chmod(os.path.dirname(free[0]), 0o755)
 
 
 def kinds_and_links(file):
@@ -944,6 +1330,8 @@ def building(copy):
             "the cut set printer is not built.*rt is not on the path")
     stopped("an hour, nothing built and no rt", copy.run("levels", "--windows", PLAN, "--hour", "5", *PUMPS, "2"), 3,
             "the hour printer is not built.*rt is not on the path")
+    stopped("mirror, nothing built and no rt", copy.run("mirror", *ROAD, copy.home + "/a", copy.home + "/b"), 3,
+            "the mirror program is not built.*rt is not on the path")
     copy.stand_in()
     ran = copy.run()
     printed("a first run", ran, FUEL_LEVELS)
@@ -975,6 +1363,7 @@ def building(copy):
     hold("a slow rt where nothing changed: nothing said", ran.errors == "" and ran.status == 0, ran)
     building_sets(copy)
     building_hours(copy)
+    building_mirrors(copy)
     without_rt(copy)
 
 
@@ -1013,6 +1402,22 @@ def building_hours(copy):
     hold("an hour, a build that fails: status", ran.status == 3 and ran.out == b"", ran)
     hold("an hour, a build that fails: said", "'rt check hour_levels' failed: it ended with status 1" in ran.errors
          and "no level is printed; " in ran.lines[-1], ran)
+
+
+def building_mirrors(copy):
+    outs = Outs(copy, os.path.join(copy.home, "new"))
+    copy.stand_in()
+    ran = outs.run()
+    both_written("a first mirror", last_of(ran, 0), outs.names, mirror_of_road())
+    hold("a first mirror: what it does", "proving and building the mirror program" in ran.errors, ran)
+    hold("a first mirror: the call", copy.calls() == ["check mirror_files"], ran)
+    os.remove(os.path.join(copy.target, "stamp/mirror_files"))
+    outs.clear()
+    copy.stand_in(status=1)
+    ran = outs.run()
+    outs.failed("a mirror, a build that fails", ran, 3, "no file is written; .*nekbrod.log has all that rt said$")
+    said = "'rt check mirror_files' failed: it ended with status 1"
+    hold("a mirror, a build that fails: said", said in ran.errors, ran)
 
 
 def without_rt(copy):
@@ -1273,9 +1678,10 @@ def other_program(copy, commands):
     return copy.run(*ROAD, "2")
 
 
-def last_of(ran):
-    """The run without what is said while it builds."""
-    return Run(ran.status, ran.out, "".join(line + "\n" for line in ran.lines[-1:]).encode())
+def last_of(ran, lines=1):
+    """The run without what is said while it builds: its last lines alone."""
+    kept = ran.lines[len(ran.lines) - lines:]
+    return Run(ran.status, ran.out, "".join(line + "\n" for line in kept).encode("utf-8", "surrogateescape"))
 
 
 def broken_programs(copy):
@@ -1336,12 +1742,14 @@ def main():
     with tempfile.TemporaryDirectory() as work:
         os.chmod(work, 0o755)
         shipped_examples()
+        shipped_mirrors(work)
         copy = Copy(work, "a copy")
         bad_arguments(work, copy)
         file_names(work, copy)
         refusals(work, copy)
         fraction_entries(work, copy)
         hours(work, copy)
+        mirrors(work, copy)
         calls(work, copy)
         cut_sets(work, copy)
         outputs(copy)

@@ -11,7 +11,7 @@ import tempfile
 from pathlib import Path
 
 ROOT = Path(__file__).resolve().parent.parent
-LEAST_COMMANDS = 8
+LEAST_COMMANDS = 13
 
 
 def blocks(page, language):

@@ -4,8 +4,6 @@
 # shellcheck source-path=SCRIPTDIR
 . "$(dirname "$0")/checks.sh"
 
-road_tree=$examples/road_trip/tree.ftf
-road_sheet=$examples/road_trip/sheet.fts
 in=$work/input
 hour_levels=$root/target/bin/hour_levels
 needs "$hour_levels" "rt check hour_levels"
@@ -16,20 +14,15 @@ printer=$levels word=levels
 # The printer's input with the true lengths of two files.
 framed() { # N TREE SHEET
     two_bytes "$1"
-    two_bytes "$(wc -c <"$2")"
-    two_bytes "$(wc -c <"$3")"
-    cat "$2" "$3"
+    two_files "$2" "$3"
 }
 
 road_trip() { framed "$1" "$road_tree" "$road_sheet"; }
 
-# Two lengths, and as many bytes as they say.
+# Two lengths, and as many bytes as they say, after a number of levels.
 lengths() { # TREE-LENGTH SHEET-LENGTH
     two_bytes 2
-    two_bytes "$1"
-    two_bytes "$2"
-    { cat "$road_tree"; zeros "$1"; } | head -c "$1"
-    { cat "$road_sheet"; zeros "$2"; } | head -c "$2"
+    two_lengths "$1" "$2"
 }
 
 # Gives the input to the printer: the first line and the number of lines are as said, every byte as by reference/.

@@ -9,24 +9,17 @@
  * Build at the repository's root, after rt staticlib capi:
  *     cc -Iinclude examples/c/cut_sets.c target/staticlib/libcapi.a -o cut_sets
  */
+#include "answer.h"
 #include "read_file.h"
 #include <nekbrod.h>
 #include <stdio.h>
 #include <stdlib.h>
-
-enum { ANSWERED = 0, REFUSED = 1, UNUSABLE = 2, UNWRITTEN = 3 };
 
 /* More sets than these are counted and not listed. */
 #define MOST_SETS 1000000u
 
 /* What the monitor is lent beside the slice for the sets. */
 static uint8_t tree_store[NEKBROD_LARGEST_TREE];
-
-static int print_refusal(const char *what, nekbrod_refusal refusal)
-{
-    fprintf(stderr, "%s: refused %zu at %zu\n", what, refusal.number, refusal.place);
-    return REFUSED;
-}
 
 /* The events of a set, bit i for event i; a minimal cut set is never empty. */
 static void print_set(uint64_t set)
@@ -63,12 +56,7 @@ static int print_sets(nekbrod_state state)
         print_set(sets[i]);
     }
     free(sets);
-    /* What printf keeps is written here, so that a full disk or a closed output is seen. */
-    if (fflush(stdout) != 0 || ferror(stdout)) {
-        fprintf(stderr, "cut_sets: can't write the answer\n");
-        return UNWRITTEN;
-    }
-    return ANSWERED;
+    return written("cut_sets");
 }
 
 int main(int argc, char **argv)

@@ -10,13 +10,12 @@
  * Build at the repository's root, after rt staticlib capi:
  *     cc -Iinclude examples/c/day.c target/staticlib/libcapi.a -o day
  */
+#include "answer.h"
 #include "read_file.h"
 #include "read_number.h"
 #include <nekbrod.h>
 #include <stdio.h>
 #include <stdlib.h>
-
-enum { ANSWERED = 0, REFUSED = 1, UNUSABLE = 2, UNWRITTEN = 3 };
 
 #define HOURS 24u
 
@@ -27,17 +26,6 @@ static uint8_t buffer[NEKBROD_LARGEST_SHEET];
 static uint32_t lower[NEKBROD_MOST_NODES];
 static uint32_t upper[NEKBROD_MOST_NODES];
 static uint8_t marks[NEKBROD_MOST_NODES];
-
-static int print_refusal(const char *what, nekbrod_refusal refusal)
-{
-    fprintf(stderr, "%s: refused %zu at %zu\n", what, refusal.number, refusal.place);
-    return REFUSED;
-}
-
-static char mark(bool exact)
-{
-    return exact ? '=' : '~';
-}
 
 /* Holds both files and questions the level hour by hour; nothing of an hour is left to the next. */
 static int print_day(struct file tree, struct file sheet, struct file book, uint32_t k, uint32_t n, uint32_t first)
@@ -59,15 +47,10 @@ static int print_day(struct file tree, struct file sheet, struct file book, uint
         if (reply.refusal.number != 0) {
             return print_refusal("hour", reply.refusal);
         }
-        printf("%u %u %c %u %c\n", (unsigned)(first + i), (unsigned)reply.lower, mark(reply.lower_exact),
-               (unsigned)reply.upper, mark(reply.upper_exact));
+        printf("%u ", (unsigned)(first + i));
+        print_ends(reply);
     }
-    /* What printf keeps is written here, so that a full disk or a closed output is seen. */
-    if (fflush(stdout) != 0 || ferror(stdout)) {
-        fprintf(stderr, "day: can't write the answer\n");
-        return UNWRITTEN;
-    }
-    return ANSWERED;
+    return written("day");
 }
 
 int main(int argc, char **argv)

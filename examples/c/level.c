@@ -8,13 +8,12 @@
  * Build at the repository's root, after rt staticlib capi:
  *     cc -Iinclude examples/c/level.c target/staticlib/libcapi.a -o level
  */
+#include "answer.h"
 #include "read_file.h"
 #include "read_number.h"
 #include <nekbrod.h>
 #include <stdio.h>
 #include <stdlib.h>
-
-enum { ANSWERED = 0, REFUSED = 1, UNUSABLE = 2, UNWRITTEN = 3 };
 
 /* Everything that the monitor is lent: two stores and three work slices. */
 static uint8_t tree_store[NEKBROD_LARGEST_TREE];
@@ -22,17 +21,6 @@ static uint8_t sheet_store[NEKBROD_LARGEST_SHEET];
 static uint32_t lower[NEKBROD_MOST_NODES];
 static uint32_t upper[NEKBROD_MOST_NODES];
 static uint8_t marks[NEKBROD_MOST_NODES];
-
-static int print_refusal(const char *what, nekbrod_refusal refusal)
-{
-    fprintf(stderr, "%s: refused %zu at %zu\n", what, refusal.number, refusal.place);
-    return REFUSED;
-}
-
-static char mark(bool exact)
-{
-    return exact ? '=' : '~';
-}
 
 /* Holds both files and questions one level. */
 static int print_level(struct file tree, struct file sheet, uint32_t k, uint32_t n)
@@ -52,14 +40,9 @@ static int print_level(struct file tree, struct file sheet, uint32_t k, uint32_t
     if (reply.refusal.number != 0) {
         return print_refusal("level", reply.refusal);
     }
-    printf("%u %u %c %u %c\n", (unsigned)k, (unsigned)reply.lower, mark(reply.lower_exact), (unsigned)reply.upper,
-           mark(reply.upper_exact));
-    /* What printf keeps is written here, so that a full disk or a closed output is seen. */
-    if (fflush(stdout) != 0 || ferror(stdout)) {
-        fprintf(stderr, "level: can't write the answer\n");
-        return UNWRITTEN;
-    }
-    return ANSWERED;
+    printf("%u ", (unsigned)k);
+    print_ends(reply);
+    return written("level");
 }
 
 int main(int argc, char **argv)

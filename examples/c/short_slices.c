@@ -28,6 +28,15 @@ static const uint8_t CERTAIN[17] = {0, 0, 202, 154, 59, 0, 202, 154, 59, 0, 202,
 /* An OR of two basic events, whose minimal cut sets are the two alone. */
 static const uint8_t TWO[28] = {'F', 'T', 'F', 1, 0, 7, 0, 3, [15] = 1, [19] = 2, [22] = 2, [26] = 1};
 
+/* A sheet for it: 1, 1, 2 and 3 thirds, and Low from one expert of score 2, which is 14, 26, 26 and 38 of 200. */
+static const uint8_t TWO_SHEET[60] = {'F', 'T', 'S', 1, 0, 7, 0, 2, [9] = 1, 2, [26] = 2, 3, [30] = 1, [33] = 1,
+                                      [36] = 2, [39] = 3, [43] = 1, 2};
+
+/* The mirror of the two: an AND, no to two thirds, and 162, 174, 174 and 186 of 200. */
+static const uint8_t AND_OF_TWO[28] = {'F', 'T', 'F', 1, 0, 7, 0, 3, [15] = 1, [19] = 1, [22] = 2, [26] = 1};
+static const uint8_t MIRRORED_SHEET[60] = {'F', 'T', 'S', 1, 0, 7, 0, 2, [9] = 1, 2, [26] = 2, 3, [33] = 1, [36] = 2,
+                                           [39] = 2, [43] = 2, 200, [47] = 162, [50] = 174, [53] = 174, [56] = 186};
+
 static const nekbrod_state NOTHING = {0, 0};
 static const nekbrod_state BOTH = {sizeof TREE, sizeof SHEET};
 
@@ -363,6 +372,63 @@ static void cut_sets_of_64(void)
     }
 }
 
+static const nekbrod_state TWO_AND_SHEET = {sizeof TWO, sizeof TWO_SHEET};
+
+/* Each refusal before 31, with no buffer and with buffers that stay. */
+static void mirrors_refused(void)
+{
+    uint8_t *tree = copy_at_the_edge(TWO, sizeof TWO), *sheet = copy_at_the_edge(TWO_SHEET, sizeof TWO_SHEET);
+    uint8_t *one = copy_at_the_edge(SHEET, sizeof SHEET);
+    const struct {
+        nekbrod_state state;
+        const uint8_t *tree, *sheet;
+        size_t tree_len, sheet_len, number, place;
+    } cases[] = {{NOTHING, NULL, NULL, 0, 0, NEKBROD_NO_TREE, 0},
+                 {{0, sizeof TWO_SHEET}, tree, sheet, sizeof TWO, sizeof TWO_SHEET, NEKBROD_NO_TREE, 0},
+                 {{sizeof TWO, 0}, NULL, NULL, 0, 0, NEKBROD_NO_SHEET, 0},
+                 {TWO_AND_SHEET, NULL, NULL, 0, 0, NEKBROD_CHANGED, 0},
+                 {TWO_AND_SHEET, tree, sheet, sizeof TWO - 1, sizeof TWO_SHEET, NEKBROD_CHANGED, 0},
+                 {TWO_AND_SHEET, tree, NULL, sizeof TWO, 0, NEKBROD_CHANGED, 1},
+                 {TWO_AND_SHEET, tree, sheet, sizeof TWO, sizeof TWO_SHEET - 1, NEKBROD_CHANGED, 1},
+                 {{sizeof TWO, sizeof SHEET}, tree, one, sizeof TWO, sizeof SHEET, NEKBROD_OTHER_TREE, 0}};
+    for (size_t i = 0; i < sizeof cases / sizeof cases[0]; i++) {
+        uint8_t *tree_buffer = at_the_edge(sizeof TWO), *sheet_buffer = at_the_edge(sizeof TWO_SHEET);
+        for (size_t lent = 0; lent < 2; lent++) {
+            nekbrod_answer answer = nekbrod_mirror(cases[i].state, cases[i].tree, cases[i].tree_len, cases[i].sheet,
+                                                   cases[i].sheet_len, lent ? tree_buffer : NULL, lent * sizeof TWO,
+                                                   lent ? sheet_buffer : NULL, lent * sizeof TWO_SHEET);
+            EXPECT(refused(answer.refusal, cases[i].number, cases[i].place) && same(answer.state, cases[i].state));
+        }
+        EXPECT(filled(tree_buffer, sizeof TWO) && filled(sheet_buffer, sizeof TWO_SHEET));
+    }
+}
+
+/* Buffers of no byte, of one, of one too few, of the exact length and of two more, each with each. */
+static void mirrors_short(void)
+{
+    uint8_t *tree = copy_at_the_edge(TWO, sizeof TWO), *sheet = copy_at_the_edge(TWO_SHEET, sizeof TWO_SHEET);
+    const size_t trees[] = {0, 1, sizeof TWO - 1, sizeof TWO, sizeof TWO + 2};
+    const size_t sheets[] = {0, 1, sizeof TWO_SHEET - 1, sizeof TWO_SHEET, sizeof TWO_SHEET + 2};
+    for (size_t i = 0; i < 25; i++) {
+        size_t tree_len = trees[i / 5], sheet_len = sheets[i % 5];
+        uint8_t *tree_buffer = at_the_edge(tree_len), *sheet_buffer = at_the_edge(sheet_len);
+        nekbrod_answer answer = nekbrod_mirror(TWO_AND_SHEET, tree, sizeof TWO, sheet, sizeof TWO_SHEET,
+                                               tree_len == 0 ? NULL : tree_buffer, tree_len,
+                                               sheet_len == 0 ? NULL : sheet_buffer, sheet_len);
+        EXPECT(same(answer.state, TWO_AND_SHEET));
+        if (tree_len < sizeof TWO || sheet_len < sizeof TWO_SHEET) {
+            EXPECT(refused(answer.refusal, NEKBROD_SHORT_MIRROR, 0));
+            EXPECT(filled(tree_buffer, tree_len) && filled(sheet_buffer, sheet_len));
+        } else {
+            EXPECT(refused(answer.refusal, 0, 0));
+            EXPECT(memcmp(tree_buffer, AND_OF_TWO, sizeof TWO) == 0);
+            EXPECT(memcmp(sheet_buffer, MIRRORED_SHEET, sizeof TWO_SHEET) == 0);
+            EXPECT(filled(tree_buffer + sizeof TWO, tree_len - sizeof TWO));
+            EXPECT(filled(sheet_buffer + sizeof TWO_SHEET, sheet_len - sizeof TWO_SHEET));
+        }
+    }
+}
+
 /* The filled bytes of each page before and after its slice. */
 static void look_beside(void)
 {
@@ -386,6 +452,8 @@ int main(void)
         cut_sets_refused();
         cut_sets_short();
         cut_sets_of_64();
+        mirrors_refused();
+        mirrors_short();
     }
     look_beside();
     if (failures == 0) {

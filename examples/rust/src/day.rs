@@ -11,10 +11,9 @@
 
 mod words;
 
-use nekbrod::{Level, Monitor};
 use std::ffi::OsString;
 use std::process::ExitCode;
-use words::{end_text, print_text, read_file, read_number, report, Failure};
+use words::{ends_text, hold_pair, print_text, read_file, read_number, report, Failure};
 
 const USAGE: &str = "day TREE SHEET BOOK K N FIRST, where TREE, SHEET and BOOK are files, level K of N is asked, and \
     FIRST is the first of 24 hours";
@@ -30,14 +29,12 @@ fn print_day(words: Vec<OsString>) -> Result<(), Failure> {
     let (k, n, first) = (read_number(&k)?, read_number(&n)?, read_number(&first)?);
     let last = first.checked_add(HOURS - 1).ok_or(Failure::Usage)?;
     let (tree, sheet, book) = (read_file(tree)?, read_file(sheet)?, read_file(book)?);
-    let mut monitor = Monitor::new();
-    monitor.hand_in_tree(&tree).map_err(|refusal| Failure::Refused("tree", refusal))?;
-    monitor.hand_in_sheet(&sheet).map_err(|refusal| Failure::Refused("sheet", refusal))?;
+    let mut monitor = hold_pair(&tree, &sheet)?;
     let mut lines = String::new();
     for hour in first..=last {
         let level = monitor.question_at_hour(&book, k, n, hour);
-        let Level { lower, upper, .. } = level.map_err(|refusal| Failure::Refused("hour", refusal))?;
-        lines += &format!("{hour} {} {}\n", end_text(lower), end_text(upper));
+        let level = level.map_err(|refusal| Failure::Refused("hour", refusal))?;
+        lines += &format!("{hour} {}\n", ends_text(level));
     }
     print_text(&lines)
 }

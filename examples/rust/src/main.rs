@@ -9,10 +9,9 @@
 
 mod words;
 
-use nekbrod::{Level, Monitor};
 use std::ffi::OsString;
 use std::process::ExitCode;
-use words::{end_text, print_text, read_file, read_number, report, Failure};
+use words::{ends_text, hold_pair, print_text, read_file, read_number, report, Failure};
 
 const USAGE: &str = "level TREE SHEET K N, where TREE and SHEET are files and level K of N is asked";
 
@@ -25,10 +24,7 @@ fn print_level(words: Vec<OsString>) -> Result<(), Failure> {
     let [tree, sheet, k, n] = <[OsString; 4]>::try_from(words).map_err(|_| Failure::Usage)?;
     let (k, n) = (read_number(&k)?, read_number(&n)?);
     let (tree, sheet) = (read_file(tree)?, read_file(sheet)?);
-    let mut monitor = Monitor::new();
-    monitor.hand_in_tree(&tree).map_err(|refusal| Failure::Refused("tree", refusal))?;
-    monitor.hand_in_sheet(&sheet).map_err(|refusal| Failure::Refused("sheet", refusal))?;
+    let mut monitor = hold_pair(&tree, &sheet)?;
     let level = monitor.question(k, n).map_err(|refusal| Failure::Refused("level", refusal))?;
-    let Level { lower, upper, .. } = level;
-    print_text(&format!("{k} {} {}\n", end_text(lower), end_text(upper)))
+    print_text(&format!("{k} {}\n", ends_text(level)))
 }

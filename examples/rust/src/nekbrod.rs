@@ -154,6 +154,30 @@ impl Monitor {
         self.level_of(reply)
     }
 
+    /// A monitor that holds the mirror of the held pair, the tree and the sheet of what must work. At each level its
+    /// lower end is a billion minus the upper end here, its upper end a billion minus the lower one, each exact where
+    /// that end is. Mirrored again it answers each level as here; only entries of opinions have become fractions.
+    pub fn mirror(&self) -> Result<Monitor, Refusal> {
+        let mut mirrored = Monitor::new();
+        // SAFETY: the stores here are read, the other monitor's are vectors of its own, all lent with their lengths.
+        let answer = unsafe {
+            nekbrod_mirror(
+                self.state,
+                self.tree_store.as_ptr(),
+                self.tree_store.len(),
+                self.sheet_store.as_ptr(),
+                self.sheet_store.len(),
+                mirrored.tree_store.as_mut_ptr(),
+                mirrored.tree_store.len(),
+                mirrored.sheet_store.as_mut_ptr(),
+                mirrored.sheet_store.len(),
+            )
+        };
+        answer.refusal.unless_none()?;
+        mirrored.state = answer.state;
+        Ok(mirrored)
+    }
+
     /// What a question answered, and the state that came with it.
     fn level_of(&mut self, reply: Reply) -> Result<Level, Refusal> {
         self.state = reply.state;
@@ -264,6 +288,17 @@ extern "C" {
         marks: *mut u8,
         marks_len: usize,
     ) -> Reply;
+    fn nekbrod_mirror(
+        state: State,
+        tree_store: *const u8,
+        tree_store_len: usize,
+        sheet_store: *const u8,
+        sheet_store_len: usize,
+        tree_buffer: *mut u8,
+        tree_buffer_len: usize,
+        sheet_buffer: *mut u8,
+        sheet_buffer_len: usize,
+    ) -> Answer;
     fn nekbrod_count_cut_sets(state: State, tree_store: *const u8, tree_store_len: usize) -> SetCount;
     fn nekbrod_list_cut_sets(
         state: State,

@@ -1,7 +1,7 @@
-//! What the programs of a level share: reading their words and files, printing an end, and telling what kept the lines
-//! from being printed.
+//! What the programs of a level share: reading their words and files, holding a pair, printing its ends, and telling
+//! what kept the lines from being printed.
 
-use nekbrod::{End, Refusal};
+use nekbrod::{End, Level, Monitor, Refusal};
 use std::ffi::OsString;
 use std::io::{self, Write};
 use std::process::ExitCode;
@@ -14,8 +14,21 @@ pub enum Failure {
     Unwritten(io::Error),
 }
 
-pub fn end_text(end: End) -> String {
+/// Both ends, each with its mark.
+pub fn ends_text(level: Level) -> String {
+    format!("{} {}", end_text(level.lower), end_text(level.upper))
+}
+
+fn end_text(end: End) -> String {
     format!("{} {}", end.billionths, if end.exact { '=' } else { '~' })
+}
+
+/// A monitor that holds both files.
+pub fn hold_pair(tree: &[u8], sheet: &[u8]) -> Result<Monitor, Failure> {
+    let mut monitor = Monitor::new();
+    monitor.hand_in_tree(tree).map_err(|refusal| Failure::Refused("tree", refusal))?;
+    monitor.hand_in_sheet(sheet).map_err(|refusal| Failure::Refused("sheet", refusal))?;
+    Ok(monitor)
 }
 
 /// Decimal digits alone, for a number of 32 bits.

@@ -1,4 +1,5 @@
-# Read by the tests of the C and the Rust programs: what `day` must print of an example, hour by hour, by reference/.
+# Read by the tests of the C and the Rust programs: what `day` must print of an example, hour by hour, and what `mirror`
+# must, level by level, by reference/.
 # shellcheck shell=sh
 
 # A 16-bit number, low byte first.
@@ -42,6 +43,12 @@ due_day() { # NAME K N FIRST
     for hour in $(range "$4" $(($4 + 24))); do
         hour_input "$1" "$3" "$hour" | "$reference" hours | sed -n "s/^$2 /$hour /p"
     done
+}
+
+# The levels from N down to 0: of each the second monitor's line, and what the law makes of it for the mirrored pair.
+due_sides() { # NAME N
+    "$reference" example "$1" input "$2" | "$reference" levels | sed 1d |
+        awk '{ print "fails", $0; print "works", $1, 1000000000 - $4, $5, 1000000000 - $2, $3 }'
 }
 
 # The hour that an example has stored levels for.
