@@ -5,7 +5,8 @@
 -- demands 2 and 3 as `Promises-kept` says them of the C reply. `nekbrod_question_at_hour` answers the same form of
 -- work_windows' `hour-reply`, with `Promises-kept` of the hour's sheet. `nekbrod_count_cut_sets` and
 -- `nekbrod_list_cut_sets` answer the C form of what cut_sets' definitions give, `count-for` and `listing-for` of
--- CutSets, and a listing leaves the lent slice as `Slice-left` says. `nekbrod_version` answers `version` of Version. No
+-- CutSets, and a listing leaves the lent slice as `Slice-left` says. `nekbrod_mirror` answers `mirror-answer-for` of
+-- Mirror, the C form of what mirror's definitions give, and keeps De Morgan's law as its `Law-kept` says. `nekbrod_version` answers `version` of Version. No
 -- definition stands for an inner contract alone. Read in this order.
 pub mod State
 pub mod Refusal
@@ -13,4 +14,5 @@ pub mod HandIn
 pub mod Standing
 pub mod Question
 pub mod CutSets
+pub mod Mirror
 pub mod Version

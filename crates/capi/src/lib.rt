@@ -6,4 +6,5 @@ pub mod minimal_cut_sets;
 pub mod question;
 pub mod refusal;
 pub mod state;
+pub mod success_tree;
 pub mod version;

@@ -2,7 +2,6 @@
 // was written.
 use crate::line::print_set;
 use crate::print::print_header;
-use crate::print::print_refusal;
 use crate::print::say_unlisted;
 use cut_sets::count::count_sets;
 use cut_sets::list::list_sets;
@@ -12,6 +11,7 @@ use monitor::hand_in::hand_in_tree;
 use monitor::held::Standing;
 use monitor::judge::judge_tree;
 use monitor::state::State;
+use program_text::lines::print_refusal;
 use tree_file::judgement::Counts;
 
 // The most sets that are listed: the places of the program's own slice.

@@ -2,13 +2,13 @@
 // all of its text was written.
 use crate::given::Asked;
 use crate::levels::print_hour;
-use crate::part::front;
-use crate::print::print_refusal;
 use monitor::hand_in::Verdict;
 use monitor::hand_in::hand_in_sheet;
 use monitor::hand_in::hand_in_tree;
 use monitor::question::Outcome;
 use monitor::state::State;
+use program_text::front::front;
+use program_text::lines::print_refusal;
 use work_windows::question::question_at_hour;
 
 // The most nodes of a tree.

@@ -1,11 +1,12 @@
 // What is given on standard input: 16-bit n, tree length, sheet length and book length and a 32-bit hour, low byte
 // first, then the tree, the sheet and the book. Each function answers whether all of its text was written.
 use crate::answer::print_pair;
-use crate::part::front;
-use crate::print::print_input;
 use fields::fields::field16_at;
 use fields::fields::field32_at;
 use libc::STDIN_FILENO;
+use program_text::front::front;
+use program_text::lines::print_input;
+use program_text::read::read_part;
 
 // The most bytes of a tree file and of an opinion sheet that can be accepted.
 const MOST_TREE: usize = 7175;
@@ -19,13 +20,6 @@ pub struct Asked {
     pub tree: usize,
     pub sheet: usize,
     pub book: usize,
-}
-
-// Reads a file of that length; whether all of it came.
-fn read_part(length: usize, file: &mut [u8]) -> bool {
-    let room = front(length, file);
-    let got = io::read_full(STDIN_FILENO, &mut file[..room]);
-    got == length
 }
 
 // Reads the files, and prints the levels. A book as long as the array is longer than a 16-bit length can say.

@@ -5,7 +5,6 @@ mod answer;
 mod given;
 mod levels;
 mod part;
-mod print;
 
 fn main() {
     let written = given::print_given();

@@ -1,20 +1,20 @@
 // Judging and questioning a level, each with what it prints.
 use crate::call::Question;
 use crate::checksum::of_units;
-use crate::front::front;
 use crate::front::units_front;
-use crate::print::print_after;
-use crate::print::print_decimal;
-use crate::print::print_line_end;
 use crate::print::print_marks;
-use crate::print::print_number;
-use crate::print::print_refusal;
-use crate::print::print_text;
 use crate::print::print_units;
 use monitor::held::Standing;
 use monitor::question::Outcome;
 use monitor::question::Report;
 use monitor::state::State;
+use program_text::front::front;
+use program_text::lines::print_refusal;
+use program_text::store::print_after;
+use program_text::store::print_decimal;
+use program_text::store::print_line_end;
+use program_text::store::print_number;
+use program_text::store::print_text;
 use rounding::end::End;
 
 // The number of basic events, which ends a line.
@@ -31,7 +31,9 @@ fn print_standing(standing: Standing) {
             print_number(counts.nodes);
             print_events(counts.events);
         }
-        Standing::Refused(refusal) => print_refusal(refusal),
+        Standing::Refused(refusal) => {
+            print_refusal(refusal);
+        }
     }
 }
 
@@ -63,7 +65,9 @@ fn print_report(report: Report) {
 pub fn print_outcome(outcome: Outcome) {
     match outcome {
         Outcome::Answered(report) => print_report(report),
-        Outcome::Refused(refusal) => print_refusal(refusal),
+        Outcome::Refused(refusal) => {
+            print_refusal(refusal);
+        }
     }
 }
 

@@ -1,16 +1,6 @@
 // A call's length as far as there is room: no list of calls has a longer one.
 ghost use Rattle.io.specs.Counts.{Counts};
 
-// Of a store, a file or the marks.
-pub fn front(length: usize, room: &[u8]) -> usize
-    ensures { λ r. ⌜ Counts r (now (room .entry)) ⌝ }
-{
-    if room.len() < length {
-        return room.len();
-    }
-    length
-}
-
 // Of a work slice of ends.
 pub fn units_front(length: usize, room: &[u32]) -> usize
     ensures { λ r. ⌜ Counts r (now (room .entry)) ⌝ }

@@ -1,17 +1,19 @@
 // Handing in a tree or a sheet, and dropping both, each with what it prints.
-use crate::front::front;
-use crate::print::print_after;
-use crate::print::print_refusal;
-use crate::print::print_text;
 use libc::STDIN_FILENO;
 use monitor::hand_in::Verdict;
 use monitor::state::State;
+use program_text::front::front;
+use program_text::lines::print_refusal;
+use program_text::store::print_after;
+use program_text::store::print_text;
 ghost use Rattle.io.specs.Counts.{Counts};
 
 fn print_verdict(verdict: Verdict) {
     match verdict {
         Verdict::Accepted => print_text(b"accepted\n"),
-        Verdict::Refused(refusal) => print_refusal(refusal),
+        Verdict::Refused(refusal) => {
+            print_refusal(refusal);
+        }
     }
 }
 

@@ -1,18 +1,18 @@
 // Questioning a level at an hour, with what it prints.
 use crate::ask::print_outcome;
 use crate::call::Question;
-use crate::checksum::bytes_sum;
 use crate::checksum::row_sum;
 use crate::checksum::units_sum;
 use crate::desk::Desk;
-use crate::front::front;
 use crate::front::units_front;
-use crate::print::print_decimal;
-use crate::print::print_line_end;
-use crate::print::print_space;
-use crate::print::print_text;
 use monitor::question::Reply;
 use monitor::state::State;
+use program_text::checksum::bytes_sum;
+use program_text::front::front;
+use program_text::store::print_decimal;
+use program_text::store::print_line_end;
+use program_text::store::print_space;
+use program_text::store::print_text;
 use work_windows::question::question_at_hour;
 
 // What a question leaves: its reply, and a checksum of the buffer and the work slices.

@@ -11,7 +11,6 @@ use crate::desk::poke;
 use crate::desk::set_stores;
 use crate::desk::with_hour;
 use crate::desk::with_stores;
-use crate::front::front;
 use crate::hand_in::call_drop;
 use crate::hand_in::call_sheet;
 use crate::hand_in::call_tree;
@@ -20,6 +19,7 @@ use crate::hours::call_hour_question;
 use crate::sets::call_count;
 use crate::sets::call_cut_sets;
 use monitor::state::State;
+use program_text::front::front;
 
 // The state after a setting; any other call leaves it as it is.
 fn after_setting(state: State, call: Call, tree: &mut [u8], sheet: &mut [u8]) -> State {

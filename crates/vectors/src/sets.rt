@@ -1,12 +1,5 @@
 // Counting and listing minimal cut sets, each with what it prints.
 use crate::front::sets_front;
-use crate::print::print_after;
-use crate::print::print_decimal;
-use crate::print::print_line_end;
-use crate::print::print_number;
-use crate::print::print_refusal;
-use crate::print::print_space;
-use crate::print::print_text;
 use crate::set_sums::FILL;
 use crate::set_sums::places_left;
 use crate::set_sums::sets_sum;
@@ -14,6 +7,13 @@ use cut_sets::count::count_sets;
 use cut_sets::list::list_sets;
 use cut_sets::outcome::Outcome;
 use monitor::state::State;
+use program_text::lines::print_refusal;
+use program_text::store::print_after;
+use program_text::store::print_decimal;
+use program_text::store::print_line_end;
+use program_text::store::print_number;
+use program_text::store::print_space;
+use program_text::store::print_text;
 
 // Prints the count or the refusal; the count, 0 where refused.
 fn print_counted(outcome: Outcome) -> u64 {

@@ -1,9 +1,9 @@
--- `vectors::print::print_all_bytes` is safe and ends.
+-- `program_text::store::print_all_bytes` is safe and ends.
 use Prim.Native.Nat.{_-_}
 use lib.ListN.{length}
 use borrow.Author.Needs.{needs}
-use Rattle.vectors.proofs.print.print_all_bytes.Statement.{statement}
-use Rattle.vectors.proofs.print.print_all_bytes.Tie as tie
+use Rattle.program_text.proofs.store.print_all_bytes.Statement.{statement}
+use Rattle.program_text.proofs.store.print_all_bytes.Tie as tie
 
 abbrev Inv-loop : tie.InvT-loop
 Inv-loop bytes i₀ i = Unit {0}

@@ -1,8 +1,8 @@
--- `hour_levels::part::front` is safe and ends, and answers a length that fits.
+-- `program_text::front::front` is safe and ends, and answers a length that fits.
 use borrow.Author.Needs.{needs}
 use Rattle.io.proofs.Counting.{counts}
-use Rattle.hour_levels.proofs.part.front.Statement.{statement}
-use Rattle.hour_levels.proofs.part.front.Tie as tie
+use Rattle.program_text.proofs.front.front.Statement.{statement}
+use Rattle.program_text.proofs.front.front.Tie as tie
 
 returns : tie.Need-returns
 returns c = search (needs, counts)

@@ -1,9 +1,9 @@
--- `vectors::checksum::bytes_sum` is safe and ends.
+-- `program_text::checksum::bytes_sum` is safe and ends.
 use Prim.Native.Nat.{_-_}
 use lib.ListN.{length}
 use borrow.Author.Needs.{needs}
-use Rattle.vectors.proofs.checksum.bytes_sum.Statement.{statement}
-use Rattle.vectors.proofs.checksum.bytes_sum.Tie as tie
+use Rattle.program_text.proofs.checksum.bytes_sum.Statement.{statement}
+use Rattle.program_text.proofs.checksum.bytes_sum.Tie as tie
 
 abbrev Inv-loop : tie.InvT-loop
 Inv-loop bytes sum₀ i₀ sum i = Unit {0}
