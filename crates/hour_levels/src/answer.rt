@@ -9,6 +9,8 @@ use monitor::question::Outcome;
 use monitor::state::State;
 use program_text::front::front;
 use program_text::lines::print_refusal;
+use program_text::read::MOST_SHEET;
+use program_text::read::MOST_TREE;
 use work_windows::question::question_at_hour;
 
 // The most nodes of a tree.
@@ -56,19 +58,19 @@ fn print_with_sheet(
     sheet: &[u8],
     book: &[u8],
 ) -> bool {
-    let mut store = [0u8; 17434];
+    let mut store = [0u8; MOST_SHEET];
     let answer = hand_in_sheet(state, sheet, &mut store);
     let verdict = answer.verdict;
     if let Verdict::Refused(refusal) = verdict {
         return print_refusal(refusal);
     }
-    let mut buffer = [0u8; 17434];
+    let mut buffer = [0u8; MOST_SHEET];
     print_asked(answer.state, asked, tree_store, &store, book, &mut buffer)
 }
 
 // Hands in the tree, then the sheet, and asks.
 pub fn print_pair(asked: Asked, tree: &[u8], sheet: &[u8], book: &[u8]) -> bool {
-    let mut store = [0u8; 7175];
+    let mut store = [0u8; MOST_TREE];
     let empty = State {
         tree_len: 0,
         sheet_len: 0,

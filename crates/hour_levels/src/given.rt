@@ -6,12 +6,9 @@ use fields::fields::field32_at;
 use libc::STDIN_FILENO;
 use program_text::front::front;
 use program_text::lines::print_input;
+use program_text::read::MOST_SHEET;
+use program_text::read::MOST_TREE;
 use program_text::read::read_part;
-
-// The most bytes of a tree file and of an opinion sheet that can be accepted.
-const MOST_TREE: usize = 7175;
-
-const MOST_SHEET: usize = 17434;
 
 // The number of levels and the hour that are asked for, and the lengths of the files.
 pub struct Asked {

@@ -40,8 +40,8 @@ unfolding end-complement
 turned-over U held mirror e within = record {
   lower = sym (rw (e up) (back (within down)));
   upper = sym (rw (e down) (back (within up)));
-  lower-mark = rw (e up) refl;
-  upper-mark = rw (e down) refl;
+  lower-mark = sym (ap (λ x. x .exact) (e up));
+  upper-mark = sym (ap (λ x. x .exact) (e down));
 }
   where
     back : {x : ℕ} → x ≤ U → U - (U - x) ≡ x

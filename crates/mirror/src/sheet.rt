@@ -1,5 +1,7 @@
 // The mirrored opinion sheet, written to a lent buffer.
 use crate::entry::mirrored_entry;
+use opinion_sheet::format::ENTRY_LENGTH;
+use opinion_sheet::format::HEADER_LENGTH;
 ghost use mathlib.Core.Path.{_≡_};
 ghost use mathlib.Core.List.{_++_};
 ghost use lib.ListN.{length, drop};
@@ -7,11 +9,6 @@ ghost use Rattle.fields.specs.Fields.{with-parts};
 ghost use Rattle.opinion_sheet.specs.Format.{header-length, entry-length};
 ghost use Rattle.mirror.specs.Sheet.{mirrored-entry, mirrored-sheet};
 ghost use Rattle.mirror.specs.Writing.{Sheet-asked};
-
-// The lengths of the header and of an entry.
-const HEADER_LENGTH: usize = 26;
-
-const ENTRY_LENGTH: usize = 17;
 
 // Writes the entries of all events over those of the copied sheet.
 fn write_entries(sheet: &[u8], events: usize, buffer: &mut [u8])

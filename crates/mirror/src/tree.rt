@@ -1,4 +1,6 @@
 // The mirrored tree file, written to a lent buffer.
+use tree_file::format::HEADER_LENGTH;
+use tree_file::format::RECORD_LENGTH;
 ghost use mathlib.Core.Path.{_≡_};
 ghost use mathlib.Core.List.{_++_};
 ghost use Prim.Native.Nat.{_+_, _≤_};
@@ -8,12 +10,7 @@ ghost use Rattle.tree_file.specs.Format.{header-length, record-at, record-lengt
 ghost use Rattle.mirror.specs.Tree.{exchanged, mirrored-record, mirrored-tree};
 ghost use Rattle.mirror.specs.Writing.{Tree-asked};
 
-// The lengths of the header and of a record.
-const HEADER_LENGTH: usize = 9;
-
-const RECORD_LENGTH: usize = 5;
-
-// The kinds of a gate.
+// The kind bytes of gates.
 const AND: u8 = 1;
 
 const OR: u8 = 2;

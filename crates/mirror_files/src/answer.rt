@@ -9,11 +9,13 @@ use monitor::hand_in::hand_in_tree;
 use monitor::state::State;
 use program_text::front::front;
 use program_text::lines::print_refusal;
+use program_text::read::MOST_SHEET;
+use program_text::read::MOST_TREE;
 
 // Mirrors the held pair, and writes the tree file and then the sheet.
 fn write_held(state: State, tree_store: &[u8], sheet_store: &[u8]) -> bool {
-    let mut tree = [0u8; 7175];
-    let mut sheet = [0u8; 17434];
+    let mut tree = [0u8; MOST_TREE];
+    let mut sheet = [0u8; MOST_SHEET];
     let reply = mirror(state, tree_store, sheet_store, &mut tree, &mut sheet);
     let outcome = reply.outcome;
     if let Outcome::Refused(refusal) = outcome {
@@ -28,7 +30,7 @@ fn write_held(state: State, tree_store: &[u8], sheet_store: &[u8]) -> bool {
 
 // Hands in the sheet, and mirrors the pair.
 fn write_with_sheet(state: State, tree_store: &[u8], sheet: &[u8]) -> bool {
-    let mut store = [0u8; 17434];
+    let mut store = [0u8; MOST_SHEET];
     let answer = hand_in_sheet(state, sheet, &mut store);
     let verdict = answer.verdict;
     if let Verdict::Refused(refusal) = verdict {
@@ -39,7 +41,7 @@ fn write_with_sheet(state: State, tree_store: &[u8], sheet: &[u8]) -> bool {
 
 // Hands in the tree, then the sheet, and mirrors the pair.
 pub fn write_mirror(tree: &[u8], sheet: &[u8]) -> bool {
-    let mut store = [0u8; 7175];
+    let mut store = [0u8; MOST_TREE];
     let empty = State {
         tree_len: 0,
         sheet_len: 0,

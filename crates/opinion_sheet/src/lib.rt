@@ -4,7 +4,7 @@
 pub mod cut;
 pub mod entry;
 mod fault;
-mod format;
+pub mod format;
 pub mod fractions;
 mod header;
 pub mod judge;
