@@ -1,4 +1,5 @@
 -- `mirror::tree::mirrored_record` meets its contract.
+use denote.Ref.{now}
 use borrow.Author.Needs.{needs}
 use Rattle.mirror.proofs.TreeAsked.{record-made}
 use Rattle.mirror.proofs.tree.mirrored_record.Statement.{statement}
@@ -41,7 +42,10 @@ shared-slice-read-t17 : tie.Need-shared-slice-read-t17
 shared-slice-read-t17 c = search needs
 
 returns : tie.Need-returns
-returns c = record-made _ _ _ (c .before .before .before .before .exchanged .ensures)
+returns c =
+    let made = c .before .before .before .before in
+    let args = made .before .before .before .args in
+    record-made (now (args .tree)) (args .i) _ (made .exchanged .ensures)
 
 pub mirrored-record-spec : {M : Type 1} → statement M
 mirrored-record-spec = tie.close (tie.spec mul-at add-at shared-slice-read-exchanged exchanged-requires add-t5 shared-slice-read-t7 add-t9 shared-slice-read-t11 add-t12 shared-slice-read-t14 add-t15 shared-slice-read-t17 returns)
