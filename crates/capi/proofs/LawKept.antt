@@ -10,7 +10,8 @@ use Rattle.mirror.specs.declared.mirror.Outcome.the-variants.{Mirrored, Refused
 use Rattle.capi.specs.Mirror.{mirror-answer-by, Law-kept}
 
 -- An answer with number 0 is of a mirrored pair.
-pub law-kept-by : (after : Held) (outcome : Outcome) (held : Held) (tree-store sheet-store tree-buffer sheet-buffer : List ℕ)
+pub law-kept-by : (after : Held) (outcome : Outcome) (held : Held)
+    (tree-store sheet-store tree-buffer sheet-buffer : List ℕ)
     → outcome-kept billion outcome held tree-store sheet-store tree-buffer sheet-buffer
     → Law-kept (mirror-answer-by after outcome) held tree-store sheet-store tree-buffer sheet-buffer
 law-kept-by after Mirrored held ts ss tb sb kept z = kept

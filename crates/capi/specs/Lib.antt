@@ -6,8 +6,8 @@
 -- work_windows' `hour-reply`, with `Promises-kept` of the hour's sheet. `nekbrod_count_cut_sets` and
 -- `nekbrod_list_cut_sets` answer the C form of what cut_sets' definitions give, `count-for` and `listing-for` of
 -- CutSets, and a listing leaves the lent slice as `Slice-left` says. `nekbrod_mirror` answers `mirror-answer-for` of
--- Mirror, the C form of what mirror's definitions give, and keeps De Morgan's law as its `Law-kept` says. `nekbrod_version` answers `version` of Version. No
--- definition stands for an inner contract alone. Read in this order.
+-- Mirror, the C form of what mirror's definitions give, and keeps De Morgan's law as its `Law-kept` says.
+-- `nekbrod_version` answers `version` of Version. No definition stands for an inner contract alone. Read in this order.
 pub mod State
 pub mod Refusal
 pub mod HandIn

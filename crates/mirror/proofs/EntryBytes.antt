@@ -1,12 +1,10 @@
 -- The bytes of an entry, by those of its numbers, and what is read of them.
-use Prim.Native.Nat.{ℕ, _+_, _*_, _≤_, _<_}
+use Prim.Native.Nat.{ℕ}
 use mathlib.Core.Path.{_≡_, refl}
 use mathlib.Core.List.{List, [], _∷_}
-use lib.ListN.{length, getD}
-use Rattle.theory.specs.Unit.{billion}
+use lib.ListN.{getD}
 use Rattle.theory.specs.Trapezoid.{Trapezoid}
-use Rattle.fields.specs.Fields.{bytes24, bytes32, field16, field24, field32}
-use Rattle.fields.proofs.Written.{field24-bytes24, field32-bytes32}
+use Rattle.fields.specs.Fields.{bytes24, bytes32}
 use Rattle.mirror.specs.Sheet.{numbers-entry, fractions-entry}
 
 -- Four numbers of four bytes each.

@@ -35,7 +35,7 @@ use Rattle.mirror.specs.Tree.{mirrored-tree, Mirrored-tree}
 use Rattle.mirror.specs.Sheet.{mirrored-sheet}
 use Rattle.mirror.specs.Law.{Turned-over, Law}
 use Rattle.mirror.proofs.TreeWritten.{tree-long, tree-means, tree-front, tree-restored}
-use Rattle.mirror.proofs.TreeAccepted.{nodes-kept, tree-counts-kept, tree-unfaulted}
+use Rattle.mirror.proofs.TreeAccepted.{tree-counts-kept, tree-unfaulted}
 use Rattle.mirror.proofs.SheetWritten.{header-bytes, sheet-long, sheet-front}
 use Rattle.mirror.proofs.SheetAccepted.{sheet-unfaulted}
 use Rattle.mirror.proofs.PairTurned.{node-turned, end-restored}

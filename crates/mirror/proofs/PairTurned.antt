@@ -4,7 +4,6 @@ use native.Mathlib.Omega.{arith}
 use mathlib.Core.Path.{_≡_, refl, sym, ap, _∙_}
 use mathlib.Core.List.{List}
 use lib.Dec.{lit<}
-use Rattle.theory.specs.Interval.{Interval}
 use Rattle.theory.specs.Trapezoid.{cut}
 use Rattle.theory.specs.Rounding.{Direction, down, up, opposite, End, end-complement}
 use Rattle.theory.specs.NodeTable.{event-count as table-event-count}
@@ -34,8 +33,9 @@ opposite-twice down = refl
 opposite-twice up = refl
 
 -- Ends that are what is missing to U of the others' opposite ends.
-pub turned-over : (U : ℕ) (held mirror : Direction → End) → ((w : Direction) → mirror w ≡ end-complement U (held (opposite w)))
-    → ((w : Direction) → held w .value ≤ U) → Turned-over U held mirror
+pub turned-over : (U : ℕ) (held mirror : Direction → End)
+    → ((w : Direction) → mirror w ≡ end-complement U (held (opposite w))) → ((w : Direction) → held w .value ≤ U)
+    → Turned-over U held mirror
 unfolding end-complement
 turned-over U held mirror e within = record {
   lower = sym (rw (e up) (back (within down)));

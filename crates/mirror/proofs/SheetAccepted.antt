@@ -1,6 +1,6 @@
 -- The mirrored sheet is what specs/Sheet says of it, and an accepted one.
 use Prim.Native.Nat.{ℕ, _<_}
-use mathlib.Core.Path.{_≡_, sym, subst}
+use mathlib.Core.Path.{_≡_}
 use mathlib.Core.List.{List}
 use native.Mathlib.Omega.{arith}
 use Rattle.theory.specs.Trapezoid.{Rising}

@@ -24,7 +24,6 @@ use Rattle.opinion_sheet.specs.declared.entry.Entry.the-variants as entry
 use Rattle.opinion_sheet.proofs.EntryLaws.{kind-number, kind-read, entry-opinions, entry-fractions}
 use Rattle.opinion_sheet.proofs.EventRising.{event-rising, opinions-cuttable}
 use Rattle.mirror.specs.Sheet.{numbers-entry, fractions-entry, entry-with, mirrored-entry, mirrored-sheet}
-use Rattle.mirror.specs.Sheet.{Mirrored-sheet}
 use Rattle.mirror.specs.Writing.{Sheet-asked}
 use Rattle.mirror.proofs.SheetAsked.{mirrored-long}
 

@@ -12,7 +12,7 @@ use Rattle.fields.proofs.Alike.{field16-alike}
 use Rattle.fields.proofs.Joined.{with-rest, with-own, with-before, with-length, with-part, with-after}
 use Rattle.fields.proofs.Joined.{with-again}
 use Rattle.tree_file.specs.Format.{node-count, record-at, link-at, kind}
-use Rattle.tree_file.specs.WellFormed.{WellFormedHeader, WellFormed}
+use Rattle.tree_file.specs.WellFormed.{WellFormedHeader}
 use Rattle.mirror.specs.Tree.{exchanged, mirrored-record, mirrored-tree, Mirrored-tree}
 use Rattle.mirror.specs.Writing.{Tree-asked}
 use Rattle.mirror.proofs.DualKind.{and-exchanged, or-exchanged, other-exchanged, exchanged-twice}
@@ -102,7 +102,8 @@ module _ (tree : List ℕ) (header : WellFormedHeader tree) where
   }
 
   -- it is the front of a buffer that it was written to
-  pub tree-front : (n : ℕ) → length tree ≡ n → (rest : List ℕ) → take n (mirrored-tree tree ++ rest) ≡ mirrored-tree tree
+  pub tree-front : (n : ℕ) → length tree ≡ n → (rest : List ℕ)
+      → take n (mirrored-tree tree ++ rest) ≡ mirrored-tree tree
   tree-front n e rest = take-at (mirrored-tree tree) rest n (tree-long ∙ e)
 
   -- mirrored again, a record is the held one
@@ -128,7 +129,8 @@ module _ (tree : List ℕ) (header : WellFormedHeader tree) where
       put : (ℕ → List ℕ) → List ℕ → List ℕ
       put part file = with-parts 9 5 part (node-count tree) file
 
-      opened : mirrored-tree (mirrored-tree tree) ≡ put (mirrored-record (mirrored-tree tree)) (put (mirrored-record tree) tree)
+      opened : mirrored-tree (mirrored-tree tree)
+          ≡ put (mirrored-record (mirrored-tree tree)) (put (mirrored-record tree) tree)
       opened = ap (λ n. with-parts 9 5 (mirrored-record (mirrored-tree tree)) n (mirrored-tree tree)) same-nodes
 
       again : put (mirrored-record (mirrored-tree tree)) (put (mirrored-record tree) tree)

@@ -16,8 +16,8 @@ use Rattle.mirror.specs.Sheet.{mirrored-sheet}
 use Rattle.mirror.specs.declared.mirror.Outcome.{Outcome}
 use Rattle.mirror.specs.declared.mirror.Outcome.the-variants.{Mirrored, Refused}
 
--- Two ends each of a node, lower (down) and upper (up), by direction: each is U minus the other pair's opposite end, and
--- marked as that one is.
+-- Two ends each of a node, lower (down) and upper (up), by direction: each is U minus the other pair's opposite end,
+-- and marked as that one is.
 pub record Turned-over (U : ℕ) (held mirror : Direction → End) : Type 0 where
   pub lower : held down .value ≡ U - mirror up .value
   pub upper : held up .value ≡ U - mirror down .value
@@ -42,7 +42,8 @@ pub record Law (U : ℕ) (state : State) (tree-store sheet-store tree-buffer she
   -- mirrored again, the tree has its bytes back, and every node what is reported of it, with its marks
   pub tree-restored : mirrored-tree (held-tree state tree-buffer) ≡ held-tree state tree-store
   pub ends-restored : (k n : ℕ) → Level k n → (w : Direction) (i : ℕ) → i < node-count (held-tree state tree-store)
-      → node-end U w (mirrored-tree (held-tree state tree-buffer)) (mirrored-sheet (held-sheet state sheet-buffer)) k n i
+      → node-end U w (mirrored-tree (held-tree state tree-buffer)) (mirrored-sheet (held-sheet state sheet-buffer)) k n
+      i
       ≡ node-end U w (held-tree state tree-store) (held-sheet state sheet-store) k n i
 
 -- What `mirror` promises beside its definitions. Of a call that is refused it asks nothing.

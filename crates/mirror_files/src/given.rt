@@ -1,5 +1,5 @@
-// What is given on standard input: the 16-bit lengths of the tree file and of the opinion sheet, low byte first, then the
-// two files. Each function answers whether all of its output was written.
+// What is given on standard input: the 16-bit lengths of the tree file and of the opinion sheet, low byte first, then
+// the two files. Each function answers whether all of its output was written.
 use crate::answer::write_mirror;
 use fields::fields::field16_at;
 use libc::STDIN_FILENO;
@@ -9,8 +9,8 @@ use program_text::read::MOST_SHEET;
 use program_text::read::MOST_TREE;
 use program_text::read::read_part;
 
-// Reads the files to their end, and writes the mirrored ones. A sheet as long as the array is longer than any is said to
-// be.
+// Reads the files to their end, and writes the mirrored ones. A sheet as long as the array is longer than any is said
+// to be.
 fn write_files(tree_len: usize, sheet_len: usize) -> bool {
     let mut tree = [0u8; MOST_TREE];
     let mut sheet = [0u8; MOST_SHEET + 1];

@@ -5,8 +5,8 @@ use mathlib.Core.Path.{_≡_, refl, ap, ap₂, _∙_}
 use Rattle.theory.specs.FaultTree.{Tree, gate, only, more}
 use Rattle.theory.specs.Interval.{Interval}
 use Rattle.theory.specs.Rounding.{Direction, opposite, end-complement, reported}
-use Rattle.theory.specs.NodeTable.{Node, event, joint, Table, inputs, build, grown, tree-of, event-count, Has-link}
-use Rattle.theory.specs.NodeTable.{Numbered, Ranked, Linked-once}
+use Rattle.theory.specs.NodeTable.{Node, event, joint, Table, inputs, build, grown, tree-of, event-count}
+use Rattle.theory.specs.NodeTable.{Has-link, Numbered, Ranked, Linked-once}
 use Rattle.theory.specs.Dual.{dual-kind, dual, duals, dual-node, Dual-table}
 use Rattle.theory.proofs.NodePromised.{each-of-table}
 use Rattle.theory.proofs.DeMorgan.{Turned-cut, dual-reported}

@@ -1,19 +1,19 @@
 -- The hour's sheet is an accepted one.
-use Prim.Native.Nat.{ℕ, _+_, _*_, _≤_, _<_}
-use mathlib.Core.Path.{_≡_, refl, sym, ap, _∙_}
+use Prim.Native.Nat.{ℕ, _+_, _≤_, _<_}
+use mathlib.Core.Path.{_≡_, refl, sym, _∙_}
 use mathlib.Core.Bool.{Bool, true, false}
 use mathlib.Core.List.{List}
 use native.Mathlib.Omega.{arith}
 use lib.Dec.{lit<, lit≤}
-use Rattle.fields.specs.Fields.{field16, field24, field32}
-use Rattle.fields.proofs.Alike.{Alike, alike-from, byte-alike, field16-alike, field24-alike, field32-alike}
+use Rattle.fields.specs.Fields.{field24, field32}
+use Rattle.fields.proofs.Alike.{Alike, alike-from, byte-alike, field24-alike, field32-alike}
 use Rattle.refusals.specs.declared.refusal.FirstFault.the-variants.{Absent}
-use Rattle.opinion_sheet.specs.Format.{entry-at, event-count, expert-count, kind, score, term, terms-at}
+use Rattle.opinion_sheet.specs.Format.{entry-at, event-count, expert-count, kind, term, terms-at}
 use Rattle.opinion_sheet.specs.Format.{unit}
 use Rattle.opinion_sheet.specs.EntryRules.{numbers-of, fractions-of}
 use Rattle.opinion_sheet.specs.Judged.{fault-of, counts-of}
-use Rattle.opinion_sheet.specs.WellFormed.{WellFormed, WellFormedEntry, WellFormedHeader}
-use Rattle.opinion_sheet.specs.WellFormed.{WellFormedOpinions, WellFormedScores}
+use Rattle.opinion_sheet.specs.WellFormed.{WellFormed, WellFormedEntry}
+use Rattle.opinion_sheet.specs.WellFormed.{WellFormedOpinions}
 use Rattle.opinion_sheet.proofs.HeaderKept.{same-events, same-experts, header-formed, scores-formed}
 use Rattle.opinion_sheet.proofs.Accepted.{accepted-absent, well-formed-accepted}
 use Rattle.work_windows.specs.Sheet.{Written}

@@ -2,13 +2,13 @@
 use Prim.Native.Nat.{ℕ, zero, suc, _+_, _*_, _≤_, _<_}
 use mathlib.Core.Path.{_≡_, refl, sym, ap, _∙_}
 use mathlib.Core.Bool.{Bool, true, false, _||_, cond, or-false, or-true}
-use mathlib.Core.List.{List, [], _++_, append-assoc}
+use mathlib.Core.List.{List, _++_, append-assoc}
 use native.Mathlib.Decide.{ℕ-discrete}
 use native.Mathlib.Nat.{not-suc-le-zero}
 use native.Mathlib.Omega.{arith}
 use lib.Dec.{eqb}
-use lib.ListN.{length, take, drop, getD, length-append, length-drop, List·getD-append}
-use lib.Seq.{length-take-le, take-add, drop-drop, take-at, drop-at, getD-append-add}
+use lib.ListN.{length, take, drop, getD, length-append, length-drop}
+use lib.Seq.{length-take-le, take-at, drop-at}
 use borrow.Author.Tests.{eq-eqb, ne-eqb}
 use Rattle.fields.proofs.Joined.{joined-next, joined-alike, joined-parts, joined-long, joined-byte}
 use Rattle.opinion_sheet.specs.Format.{header-length, entry-at, event-count, required-length, unit}
@@ -83,7 +83,9 @@ module _ (sheet : List ℕ) where
         put xs = take (17 * e) xs ++ (certain-entry (unit sheet) ++ drop (17 * e + 17) xs)
 
         opened : written-entries sheet out (suc n) ++ rest ≡ before ++ (next ++ rest)
-        opened = ap (λ (xs : List ℕ). xs ++ rest) (joined-next (written-entry sheet out) n) ∙ append-assoc before next rest
+        opened =
+            ap (λ (xs : List ℕ). xs ++ rest) (joined-next (written-entry sheet out) n)
+            ∙ append-assoc before next rest
 
         go : (e < n → put (before ++ (next ++ rest)) ≡ written-entries sheet (also out e) n ++ (next ++ rest))
             → Dec (e ≡ n) → put (before ++ (next ++ rest))

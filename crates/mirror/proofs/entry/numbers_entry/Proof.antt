@@ -73,7 +73,8 @@ returns c =
     let three = c .before in
     let two = three .before in
     let one = two .before in
-    four-numbers (numbers-trapezoid billion (one .before .args .x)) _ _ _ _ (one .four-bytes .ensures) (two .four-bytes2 .ensures) (three .four-bytes3 .ensures)
+    four-numbers (numbers-trapezoid billion (one .before .args .x)) _ _ _ _
+    (one .four-bytes .ensures) (two .four-bytes2 .ensures) (three .four-bytes3 .ensures)
     (c .four-bytes4 .ensures)
 
 pub numbers-entry-spec : {M : Type 1} → statement M

@@ -28,7 +28,8 @@ write-tree-requires c κs =
     let ready = taken .before .before in
     let judged = ready .before .before in
     let args = judged .before .before .before .before .before .args in
-    tree-asked _ _ _ _ (now (args .sheet-buffer)) _ (judged .judge-pair .ensures) _ (ready .standing2 .given .1) (taken .if1 .taken)
+    tree-asked _ _ _ _ (now (args .sheet-buffer)) _ (judged .judge-pair .ensures) _ (ready .standing2 .given .1)
+    (taken .if1 .taken)
 
 slice-aggregate-write-sheet : tie.Need-slice-aggregate-write-sheet
 slice-aggregate-write-sheet c =
@@ -42,7 +43,8 @@ write-sheet-requires c κs =
     let ready = taken .before .before in
     let judged = ready .before .before in
     let args = judged .before .before .before .before .before .args in
-    sheet-asked _ _ _ (now (args .tree-buffer)) _ _ (judged .judge-pair .ensures) _ (ready .standing2 .given .1) (taken .if1 .taken)
+    sheet-asked _ _ _ (now (args .tree-buffer)) _ _ (judged .judge-pair .ensures) _ (ready .standing2 .given .1)
+    (taken .if1 .taken)
 
 same-length : tie.Need-same-length
 same-length c = search needs

@@ -48,4 +48,19 @@ returns c =
     record-made (now (args .tree)) (args .i) _ (made .exchanged .ensures)
 
 pub mirrored-record-spec : {M : Type 1} → statement M
-mirrored-record-spec = tie.close (tie.spec mul-at add-at shared-slice-read-exchanged exchanged-requires add-t5 shared-slice-read-t7 add-t9 shared-slice-read-t11 add-t12 shared-slice-read-t14 add-t15 shared-slice-read-t17 returns)
+mirrored-record-spec =
+    tie.close
+    (tie.spec
+    mul-at
+    add-at
+    shared-slice-read-exchanged
+    exchanged-requires
+    add-t5
+    shared-slice-read-t7
+    add-t9
+    shared-slice-read-t11
+    add-t12
+    shared-slice-read-t14
+    add-t15
+    shared-slice-read-t17
+    returns)

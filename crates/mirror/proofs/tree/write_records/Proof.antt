@@ -53,7 +53,8 @@ loop-again c =
     let made = copied .before .before .before in
     let head = made .before .before in
     let asked = head .before .before .before .pre in
-    writing-goes _ _ _ _ _ (records-room _ _ _ asked) (record-long _ _ _ asked) _ _ (head .loop .inv) (omega arith) _ (made .mirrored-record .ensures) _
+    writing-goes _ _ _ _ _ (records-room _ _ _ asked) (record-long _ _ _ asked) _ _ (head .loop .inv)
+    (omega arith) _ (made .mirrored-record .ensures) _
     (copied .copy .ensures .1)
 
 same-length : tie.Need-same-length Inv-loop μ-loop
