@@ -1,8 +1,8 @@
 -- The mirrored sheet: what is read of its entries.
-use Prim.Native.Nat.{ℕ, _+_, _-_, _*_, _≤_, _<_}
+use Prim.Native.Nat.{ℕ, _+_, _*_, _≤_, _<_}
 use mathlib.Core.Path.{_≡_, refl, sym, ap, _∙_}
 use mathlib.Core.List.{List, _++_}
-use native.Mathlib.Nat.{add-assoc, add-zero}
+use native.Mathlib.Nat.{add-zero}
 use native.Mathlib.Omega.{arith}
 use lib.Dec.{lit<}
 use borrow.Author.Tests.{eq-eqb, ne-eqb}
@@ -11,9 +11,7 @@ use lib.Seq.{take-length, take-at}
 use Rattle.theory.specs.Trapezoid.{Trapezoid, Rising}
 use Rattle.theory.specs.Dual.{trapezoid-complement}
 use Rattle.theory.proofs.DeMorgan.{complement-rising}
-use Rattle.fields.specs.Fields.{byte, bytes24, bytes32, field16, field24, field32, with-parts}
-use Rattle.fields.proofs.Alike.{field24-alike, field32-alike}
-use Rattle.fields.proofs.Written.{field24-bytes24, field32-bytes32}
+use Rattle.fields.specs.Fields.{byte, with-parts}
 use Rattle.fields.proofs.Joined.{with-rest, with-before, with-length, with-part}
 use Rattle.opinion_sheet.specs.Format.{entry-at, event-count, kind, unit}
 use Rattle.opinion_sheet.specs.EntryRules.{numbers-of, fractions-of, last-byte, entry-of}
@@ -23,52 +21,10 @@ use Rattle.opinion_sheet.specs.declared.entry.Entry.{Entry}
 use Rattle.opinion_sheet.specs.declared.entry.Entry.the-variants as entry
 use Rattle.opinion_sheet.proofs.EntryLaws.{kind-number, kind-read, entry-opinions, entry-fractions}
 use Rattle.opinion_sheet.proofs.EventRising.{event-rising, opinions-cuttable}
-use Rattle.mirror.specs.Sheet.{numbers-entry, fractions-entry, entry-with, mirrored-entry, mirrored-sheet}
+use Rattle.mirror.specs.Sheet.{fractions-entry, entry-with, mirrored-entry, mirrored-sheet}
 use Rattle.mirror.specs.Writing.{Sheet-asked}
+use Rattle.mirror.proofs.EntryBytes.{numbers-read, fractions-read}
 use Rattle.mirror.proofs.SheetAsked.{mirrored-long}
-
--- What is read of an entry that stands at a place of a file.
-module _ (file : List ℕ) (at : ℕ) (z : Trapezoid) where
-  -- of a number entry: its numbers, where each has 32 bits
-  module _ (written : (j : ℕ) → j < 17 → byte file (at + j) ≡ byte (numbers-entry z) j) where
-    number-read : (d : ℕ) → d + 3 < 17 → (n : ℕ) → n < 4294967296
-        → field32 (numbers-entry z) d ≡ field32 (bytes32 n) 0 → field32 file (at + d) ≡ n
-    number-read d l n small q =
-        field32-alike file (at + d) (numbers-entry z) d
-        (λ j k. ap (byte file) (add-assoc at d j) ∙ written (d + j) (omega arith))
-        ∙ q
-        ∙ field32-bytes32 n small
-
-    pub numbers-read : z .a < 4294967296 → z .b < 4294967296 → z .c < 4294967296 → z .d < 4294967296
-        → numbers-of file at ≡ record { a = z .a; b = z .b; c = z .c; d = z .d }
-    unfolding field32 field16
-    numbers-read a b c d = λ i. record {
-      a = number-read 1 (lit< tt) (z .a) a refl i;
-      b = number-read 5 (lit< tt) (z .b) b refl i;
-      c = number-read 9 (lit< tt) (z .c) c refl i;
-      d = number-read 13 (lit< tt) (z .d) d refl i;
-    }
-
-  -- of a fraction entry: its fractions, where each number has 24 bits
-  module _ (written : (j : ℕ) → j < 17 → byte file (at + j) ≡ byte (fractions-entry z) j) where
-    part-read : (d : ℕ) → d + 2 < 17 → (n : ℕ) → n < 16777216
-        → field24 (fractions-entry z) d ≡ field24 (bytes24 n) 0 → field24 file (at + d) ≡ n
-    part-read d l n small q =
-        field24-alike file (at + d) (fractions-entry z) d
-        (λ j k. ap (byte file) (add-assoc at d j) ∙ written (d + j) (omega arith))
-        ∙ q
-        ∙ field24-bytes24 n small
-
-    pub fractions-read : z .den < 16777216 → z .a < 16777216 → z .b < 16777216 → z .c < 16777216 → z .d < 16777216
-        → fractions-of file at ≡ record { den = z .den; a = z .a; b = z .b; c = z .c; d = z .d }
-    unfolding field24
-    fractions-read e a b c d = λ i. record {
-      den = part-read 1 (lit< tt) (z .den) e refl i;
-      a = part-read 4 (lit< tt) (z .a) a refl i;
-      b = part-read 7 (lit< tt) (z .b) b refl i;
-      c = part-read 10 (lit< tt) (z .c) c refl i;
-      d = part-read 13 (lit< tt) (z .d) d refl i;
-    }
 
 module _ (sheet : List ℕ) (header : WellFormedHeader sheet) where
   entries-inside : 26 + 17 * event-count sheet ≤ length sheet
