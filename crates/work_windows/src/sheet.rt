@@ -2,8 +2,6 @@
 use crate::book::WINDOW_LENGTH;
 use crate::book::is_open;
 use fields::fields::field16_at;
-use opinion_sheet::format::ENTRY_LENGTH;
-use opinion_sheet::format::HEADER_LENGTH;
 ghost use mathlib.Core.Path.{_≡_};
 ghost use mathlib.Core.List.{_++_};
 ghost use Prim.Native.Nat.{_≤_, _<_};
@@ -13,6 +11,11 @@ ghost use Rattle.work_windows.specs.Book.{window-count, window-event};
 ghost use Rattle.work_windows.specs.Sheet.{written-sheet};
 ghost use Rattle.work_windows.specs.Writing.{Entries-inside, Entry-inside, Writable};
 ghost use Rattle.work_windows.specs.Writing.{window-written, windows-written, with-certain};
+
+// The lengths of a sheet's header and of an entry.
+const HEADER_LENGTH: usize = 26;
+
+const ENTRY_LENGTH: usize = 17;
 
 // The bytes of U, low byte first.
 const U0: u8 = 0;
