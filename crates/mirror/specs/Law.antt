@@ -17,7 +17,7 @@ use Rattle.mirror.specs.declared.mirror.Outcome.{Outcome}
 use Rattle.mirror.specs.declared.mirror.Outcome.the-variants.{Mirrored, Refused}
 
 -- Two ends each of a node, lower (down) and upper (up), by direction: each is U minus the other pair's opposite end,
--- and marked as that one is.
+-- and marked as that one is. ℕ's − stops at 0, never met as no end passes U (evaluation's `node-in-units`).
 pub record Turned-over (U : ℕ) (held mirror : Direction → End) : Type 0 where
   pub lower : held down .value ≡ U - mirror up .value
   pub upper : held up .value ≡ U - mirror down .value

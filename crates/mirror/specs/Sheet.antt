@@ -39,7 +39,7 @@ unfoldable pub mirrored-sheet : List ℕ → List ℕ
 mirrored-sheet sheet = with-parts header-length (entry-length sheet) (mirrored-entry sheet) (event-count sheet) sheet
 
 -- What a mirrored sheet is. The bytes of `mirrored-sheet` are so, of every accepted sheet: `sheet-means` of
--- proofs/SheetWritten.
+-- proofs/SheetAccepted.
 pub record Mirrored-sheet (sheet after : List ℕ) : Type 0 where
   pub length-kept : length after ≡ length sheet
   -- the header is as held

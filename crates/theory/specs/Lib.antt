@@ -5,6 +5,7 @@
 -- `rounded-is-rounded`, `rounded-unique` (RoundingMeaning). A step's form of rounding is the same number, up it is what
 -- `Least-reaching` says, and nothing else is: `rescaled-is-rounded`, `rescaled-up-is-least`, `least-is-rescaled-up`
 -- (Rescaled). Where an expert's term is taken away, every cut of the mean is `Wider`: `silence-widens` (SilenceWidens).
+-- De Morgan's law on what is reported: `dual-reported` (DeMorgan), of a table `node-dual-reported` (DualTable).
 -- The examples: `examples-hold`, `examples-4-5-hold`, `road-trip-minimal-holds`. A tree's family is of its
 -- minimal cut sets, and whatever else enumerates them has as many: `family-enumerates`, `enumerations-agree`
 -- (CutSetsEnumerated).
