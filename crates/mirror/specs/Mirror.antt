@@ -2,12 +2,13 @@
 use Prim.Native.Nat.{ℕ}
 use mathlib.Core.Bool.{_&&_}
 use mathlib.Core.List.{List, [], _∷_, _++_}
-use lib.ListN.{length, drop}
+use lib.ListN.{length}
 use lib.Dec.{leb}
 use Rattle.refusals.specs.FirstFault.{unless, first-of}
 use Rattle.refusals.specs.declared.rule.Rule.the-variants.{ShortMirror}
 use Rattle.refusals.specs.declared.refusal.FirstFault.{FirstFault}
 use Rattle.refusals.specs.declared.refusal.FirstFault.the-variants.{Found, Absent}
+use Rattle.monitor.specs.HandIn.{store-by}
 use Rattle.monitor.specs.Standing.{held-tree, held-sheet, pair-rules}
 use Rattle.monitor.specs.declared.state.State.{State}
 use Rattle.mirror.specs.Tree.{mirrored-tree}
@@ -26,11 +27,6 @@ abbrev pub outcome-by : FirstFault → Outcome
 outcome-by (Found r) = Refused r
 outcome-by Absent = Mirrored
 
--- A buffer after: as it was where the call is refused, else with a file at its front and the rest as it was.
-abbrev pub left-by : FirstFault → List ℕ → List ℕ → List ℕ
-left-by (Found r) file buffer = buffer
-left-by Absent file buffer = file ++ drop (length file) buffer
-
 module _ (state : State) (tree-store sheet-store tree-buffer sheet-buffer : List ℕ) where
   -- the rules of the mirror, in document 02's order: 21, 22, 23 tree, 23 sheet, 24, 31
   abbrev pub mirror-rules : List FirstFault
@@ -42,9 +38,9 @@ module _ (state : State) (tree-store sheet-store tree-buffer sheet-buffer : List
   unfoldable pub reply-of : Reply
   reply-of = record { state = state; outcome = outcome-by (first-of mirror-rules) }
 
-  -- the mirrored files at the fronts of the buffers
+  -- the mirrored files at the fronts of the buffers, as a hand-in leaves a file in its store
   unfoldable pub tree-left : List ℕ
-  tree-left = left-by (first-of mirror-rules) (mirrored-tree (held-tree state tree-store)) tree-buffer
+  tree-left = store-by (first-of mirror-rules) (mirrored-tree (held-tree state tree-store)) tree-buffer
 
   unfoldable pub sheet-left : List ℕ
-  sheet-left = left-by (first-of mirror-rules) (mirrored-sheet (held-sheet state sheet-store)) sheet-buffer
+  sheet-left = store-by (first-of mirror-rules) (mirrored-sheet (held-sheet state sheet-store)) sheet-buffer
