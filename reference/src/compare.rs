@@ -1,10 +1,11 @@
-//! A level printer, one at an hour, or a mirror of files, that is a program of its own, held to the same here on
-//! generated cases.
+//! A level printer, one at an hour, a node printer, or a mirror of files, that is a program of its own, held to the same
+//! here on generated cases.
 
 use crate::cases::{is_input, kind_name, write_case, Kind};
 use crate::hours::print_hours;
 use crate::levels::print_levels;
 use crate::mirror_files::print_mirror;
+use crate::node_lines::print_nodes;
 use crate::tree_file;
 use std::io::{self, Write};
 use std::process::{Command, Stdio};
@@ -17,6 +18,7 @@ pub fn printer_of(kind: Kind) -> Option<Printer> {
     match kind {
         Kind::Windows => Some(("hours", |input| print_hours(input).into_bytes())),
         Kind::Mirrors => Some(("mirror", print_mirror)),
+        Kind::Nodes => Some(("nodes", |input| print_nodes(input).into_bytes())),
         _ if is_input(kind) => Some(("levels", |input| print_levels(input).into_bytes())),
         _ => None,
     }

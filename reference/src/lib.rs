@@ -18,6 +18,7 @@ pub mod cut_sets;
 pub mod levels;
 pub mod hours;
 pub mod mirror_files;
+pub mod node_lines;
 pub mod set_lines;
 pub mod hex;
 pub mod calls;

@@ -16,6 +16,7 @@ use reference::hours::{hour_input, print_hours};
 use reference::levels::{print_levels, printer_input};
 use reference::mirror_calls::{mirror_stream_text, write_mirror_stream};
 use reference::mirror_files::print_mirror;
+use reference::node_lines::print_nodes;
 use reference::set_lines::print_sets;
 use reference::vectors::{stream_text, write_stream};
 use reference::work_windows::Plan;
@@ -26,17 +27,18 @@ use std::process::ExitCode;
 const USAGE: &str = "\
 reference levels < input                       the level printer
 reference hours < input                        the level printer at an hour, with a book of work windows
+reference nodes < input                        every node of a tree file and a sheet at a level
 reference mirror < input                       the mirror of a tree file and a sheet, both behind each other
 reference cut-sets < tree                      the minimal cut sets of a tree file, as lines in no promised order
 reference calls < list                         a list of calls (src/calls.rs says the format)
-reference each levels|hours|mirror|cut-sets|calls < stream
+reference each levels|hours|nodes|mirror|cut-sets|calls < stream
     the same for each framed case; the answers are framed alike
 reference vectors stream                       the stored list of calls as bytes (src/vectors.rs says the format)
 reference vectors text < stream                what crates/vectors must print for such bytes
 reference mirror-vectors stream                stored calls of the mirror as bytes (src/mirror_calls.rs says the format)
 reference mirror-vectors text < stream         what crates/mirror_vectors must print for such bytes
 reference cases SEED COUNT KIND DIR|-          cases as files in DIR, or framed to standard output
-    KIND: valid limits damaged changed mixed calls sets trees large fractions windows silence mirrors
+    KIND: valid limits damaged changed mixed calls sets trees large fractions windows silence mirrors nodes
 reference case SEED INDEX KIND                 one of these cases to standard output
 reference limits                               how many limits there are: so many cases of that kind have all
 reference large                                the same of the faults in large files
@@ -45,7 +47,7 @@ reference windows                              the same of the limits and faults
 reference mirrors                              the same of the limits and faults of a pair to be mirrored
 reference compare SEED COUNT KIND PROGRAM [WORD...]
     such cases given to a level printer, one run each; status 1 where it prints anything else than `levels` here, or,
-    of windows, than `hours`, and of mirrors, than `mirror`
+    of windows, than `hours`, of mirrors, than `mirror`, and of nodes, than `nodes`
 reference example NAME tree|sheet|book         a file of an example
 reference example NAME input N [HOUR]          the printer's input for an example with N levels, alone or at an hour
     NAME: road_trip container_seal fuel_supply cooling_pumps
@@ -87,6 +89,7 @@ fn run(words: &[&str]) -> Result<(), Failure> {
     match *words {
         ["levels"] => Ok(write_out(print_levels(&read_in()?).as_bytes())?),
         ["hours"] => Ok(write_out(print_hours(&read_in()?).as_bytes())?),
+        ["nodes"] => Ok(write_out(print_nodes(&read_in()?).as_bytes())?),
         ["mirror"] => Ok(write_out(&print_mirror(&read_in()?))?),
         ["cut-sets"] => Ok(write_out(print_sets(&read_in()?).as_bytes())?),
         ["calls"] => {
@@ -100,6 +103,7 @@ fn run(words: &[&str]) -> Result<(), Failure> {
         }
         ["each", "levels"] => answer_each(print_levels),
         ["each", "hours"] => answer_each(print_hours),
+        ["each", "nodes"] => answer_each(print_nodes),
         ["each", "mirror"] => answer_each(print_mirror),
         ["each", "cut-sets"] => answer_each(print_sets),
         ["each", "calls"] => answer_each(|case| answer_list(case).0),

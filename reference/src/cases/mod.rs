@@ -1,5 +1,5 @@
-//! Generated cases: inputs of the level printer, alone and at an hour, pairs to be mirrored, lists of calls, and tree
-//! files.
+//! Generated cases: inputs of the level printer, alone and at an hour, inputs of the node printer, pairs to be mirrored,
+//! lists of calls, and tree files.
 
 pub mod case;
 pub mod spot;
@@ -22,6 +22,7 @@ pub mod books;
 pub mod windows;
 pub mod silence;
 pub mod mirrors;
+pub mod nodes;
 pub mod call_lists;
 pub mod vector_list;
 pub mod fraction_vectors;
@@ -60,9 +61,11 @@ pub enum Kind {
     Silence,
     /// Pairs to be mirrored: limits, faults, answered pairs and blind changes in turn.
     Mirrors,
+    /// Inputs of the node printer: a level before the inputs of the level printer, mixed and with fraction entries.
+    Nodes,
 }
 
-pub const KINDS: [(&str, Kind); 13] = [
+pub const KINDS: [(&str, Kind); 14] = [
     ("valid", Kind::Valid),
     ("limits", Kind::Limits),
     ("damaged", Kind::Damaged),
@@ -76,6 +79,7 @@ pub const KINDS: [(&str, Kind); 13] = [
     ("windows", Kind::Windows),
     ("silence", Kind::Silence),
     ("mirrors", Kind::Mirrors),
+    ("nodes", Kind::Nodes),
 ];
 
 pub fn parse_kind(word: &str) -> Option<Kind> {
@@ -103,6 +107,7 @@ pub fn write_case(kind: Kind, seed: u64, index: u64) -> Vec<u8> {
         Kind::Windows => windows::window_case(random, index),
         Kind::Silence => silence::silence_case(random, index).bytes,
         Kind::Mirrors => mirrors::mirror_case(random, index),
+        Kind::Nodes => nodes::node_case(random, index),
     }
 }
 
@@ -119,7 +124,7 @@ fn mixed_case(random: &mut Random, index: u64) -> Vec<u8> {
 
 /// Whether the cases are inputs of the level printer.
 pub fn is_input(kind: Kind) -> bool {
-    !matches!(kind, Kind::Calls | Kind::Sets | Kind::Trees | Kind::Windows | Kind::Mirrors)
+    !matches!(kind, Kind::Calls | Kind::Sets | Kind::Trees | Kind::Windows | Kind::Mirrors | Kind::Nodes)
 }
 
 pub fn file_name(kind: Kind, index: u64) -> String {

@@ -65,7 +65,8 @@ fn a_failing_program() {
     assert!(text.contains("\n  the program did not end with status 0\n  alone: "), "{text}");
 }
 
-/// The inputs at an hour go to the printer at an hour, pairs to the mirror, and lists and trees to none.
+/// The inputs at an hour go to the printer at an hour, those of nodes to theirs, pairs to the mirror, and lists and trees
+/// to none.
 #[test]
 fn each_kind_has_its_printer() {
     for (name, kind) in KINDS {
@@ -73,6 +74,7 @@ fn each_kind_has_its_printer() {
         let wanted = match name {
             "windows" => Some("hours"),
             "mirrors" => Some("mirror"),
+            "nodes" => Some("nodes"),
             "calls" | "sets" | "trees" => None,
             _ => Some("levels"),
         };

@@ -25,6 +25,7 @@ mod enclosure;
 mod printer;
 mod hours;
 mod mirror_files;
+mod node_lines;
 mod set_lines;
 mod call_text;
 mod vectors;
