@@ -1,5 +1,5 @@
-# What is put to a program, a pair of files, with a number of levels or without, with a book and an hour or without, or
-# a tree file alone, and what the program prints.
+# What is put to a program, a pair of files, with a level, a number of levels or neither, with a book and an hour or
+# without, a tree file alone, or a file to be judged by itself, and what the program prints.
 import os
 import re
 import subprocess
@@ -12,15 +12,17 @@ from desk.screen import Stop
 LARGEST = 65535
 LAST_HOUR = 4294967295
 
-
 # The most sets that the cut set printer lists.
 MOST_SETS = 100000
+
+# The tree file of one basic event, with the tree number 0.
+ONE_EVENT = b"FTF\1\0\0\0\1\0\0\0\0\0\0"
 
 
 class TwoFiles:
     """A tree file and an opinion sheet, for the mirror program."""
 
-    levels = None
+    levels = hour = level = None
 
     # What the input has before its lengths, and between them and its files.
     levels_field = hour_field = b""
@@ -32,8 +34,12 @@ class TwoFiles:
     def files(self):
         return [("tree file", self.tree_name, self.tree), ("opinion sheet", self.sheet_name, self.sheet)]
 
+    def parts(self):
+        """The bytes of the files that the program gets."""
+        return [data for _, _, data in self.files()]
+
     def program_input(self):
-        files = [data for _, _, data in self.files()]
+        files = self.parts()
         lengths = b"".join(len(data).to_bytes(2, "little") for data in files)
         return self.levels_field + lengths + self.hour_field + b"".join(files)
 
@@ -51,7 +57,8 @@ class HourPair(Pair):
     """A pair with a book of work windows and an hour, for the hour printer."""
 
     def __init__(self, book_name, hour_word, *pair):
-        self.hour_field = read_number("hour", hour_word, LAST_HOUR).to_bytes(4, "little")
+        self.hour = read_number("hour", hour_word, LAST_HOUR)
+        self.hour_field = self.hour.to_bytes(4, "little")
         super().__init__(*pair)
         self.book_name, self.book = book_name, read_file("book", book_name)
 
@@ -59,10 +66,52 @@ class HourPair(Pair):
         return [*super().files(), ("book", self.book_name, self.book)]
 
 
+class LevelPair(TwoFiles):
+    """The two files with a level k of n, for the node printer."""
+
+    def __init__(self, tree_name, sheet_name, k_word, n_word):
+        self.level = read_number("level", k_word, LARGEST), read_number("number of levels", n_word, LARGEST)
+        self.levels_field = b"".join(number.to_bytes(2, "little") for number in self.level)
+        super().__init__(tree_name, sheet_name)
+
+
+class LoneFile(TwoFiles):
+    """A tree file or an opinion sheet by itself, for the level printer: an accepted file stands in for the other one, so
+    that every refusal but 24 is its own."""
+
+    levels, levels_field = 1, b"\1\0"
+
+    def __init__(self, what, name, data):
+        self.what, self.name, self.data = what, name, data
+
+    def files(self):
+        return [(self.what, self.name, self.data)]
+
+    def parts(self):
+        if self.what == "tree file":
+            return [self.data, zero_sheet(b"\0\0", 1)]
+        return [ONE_EVENT, self.data]
+
+
+class LoneBook(HourPair):
+    """A book of work windows with an accepted tree file, for the hour printer: a sheet of zeros stands in for its own."""
+
+    levels, levels_field = 1, b"\1\0"
+    hour, hour_field = 0, bytes(4)
+
+    def __init__(self, name, data, tree_name, tree):
+        self.book_name, self.book, self.tree_name, self.tree = name, data, tree_name, tree
+        events = sum(tree[at] == 0 for at in range(9, 9 + 5 * int.from_bytes(tree[7:9], "little"), 5))
+        self.sheet_name, self.sheet = "", zero_sheet(tree[5:7], events)
+
+    def parts(self):
+        return [self.tree, self.sheet, self.book]
+
+
 class TreeFile:
     """A tree file alone, for the cut set printer."""
 
-    levels = None
+    levels = level = None
 
     def __init__(self, name):
         self.name, self.tree = name, read_file("tree file", name)
@@ -72,6 +121,11 @@ class TreeFile:
 
     def program_input(self):
         return self.tree
+
+
+def zero_sheet(number, events):
+    """The sheet of a tree number, as its two bytes, in which each of so many events has four zeros."""
+    return b"FTS\1\0" + number + events.to_bytes(2, "little") + bytes(17 + 17 * events)
 
 
 def read_number(what, word, largest):
@@ -120,11 +174,11 @@ def run(title, program, asked, signals, **more):
     return text
 
 
-def levels_text(title, program, pair, signals):
-    """The text of the level printer or the hour printer: levels, or one line of a refusal."""
-    text = run(title, program, pair, signals)
+def printed_text(title, what, program, asked, signals):
+    """The text of the level printer, the hour printer or the node printer: levels or nodes, or one line of a refusal."""
+    text = run(title, program, asked, signals)
     if not text.startswith((b"tree ", b"refused ", b"input")):
-        raise Stop(3, f"{title} gave neither levels nor a refusal")
+        raise Stop(3, f"{title} gave neither {what} nor a refusal")
     return text
 
 

@@ -24,6 +24,7 @@ Program = collections.namedtuple("Program", "crate title nothing")
 LEVELS = Program("levels", "the level printer", "no level is printed")
 HOUR_LEVELS = Program("hour_levels", "the hour printer", "no level is printed")
 CUT_SETS = Program("cut_set_lines", "the cut set printer", "no cut set is printed")
+NODES = Program("node_lines", "the node printer", "no node is printed")
 MIRROR = Program("mirror_files", "the mirror program", "no file is written")
 
 

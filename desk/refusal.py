@@ -4,7 +4,7 @@ import collections
 import os
 import re
 
-LONGEST_TREE, LONGEST_SHEET = 7175, 17434
+LONGEST = {"tree file": 7175, "opinion sheet": 17434}
 TREE_HEADER, SHEET_HEADER = 9, 26
 RECORD, ENTRY, EXPERTS = 5, 17, 16
 LONGEST_BOOK, WINDOW, FIRST_HOUR, END_HOUR = 2560, 10, 2, 6
@@ -52,11 +52,11 @@ def row_of(rows, number, part):
 
 
 def too_long(asked):
-    """What the level printer, the hour printer and the mirror program do not let in at all."""
+    """What the level printer, the hour printer, the node printer and the mirror program do not let in at all."""
     faults = []
-    for (what, name, data), most in zip(asked.files(), (LONGEST_TREE, LONGEST_SHEET)):
-        if len(data) > most:
-            faults.append(f"the {what} {name} has {len(data)} bytes; allowed: at most {most}")
+    for what, name, data in asked.files():
+        if what in LONGEST and len(data) > LONGEST[what]:
+            faults.append(f"the {what} {name} has {len(data)} bytes; allowed: at most {LONGEST[what]}")
     return "; ".join(faults) or "the program did not take its input"
 
 
@@ -68,6 +68,8 @@ def what_stands(asked, number, place):
         book.events = readers[0].events()
     if number == 13 and asked.levels is not None:
         return "The number of levels", f" is {asked.levels}; allowed: 1 to 1000", ""
+    if number == 13 and asked.level is not None:
+        return "The level", " is {} of {}; allowed: n from 1 to 1000, and k at most n".format(*asked.level), ""
     if number == 24 and len(readers) > 1:
         return "The two files", f" do not belong together: {two_files(*readers[:2])}", ""
     if number == 26:

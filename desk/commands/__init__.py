@@ -1,0 +1,1 @@
+# What each of the command's words does.

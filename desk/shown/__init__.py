@@ -1,0 +1,1 @@
+# What people see: printed for the printers' texts, tables and plot for levels and nodes, holdings for what a file holds.
