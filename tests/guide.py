@@ -1,7 +1,8 @@
 #!/usr/bin/env python3
-"""Runs every command of docs/GUIDE.md, with the program that it gives, and compares what is printed with the page.
+"""Runs every command of docs/GUIDE.md, with the texts that it says to save, and compares what is printed with the page,
+and the picture with the one that the page shows.
 
-Prints the commands that print something else and exits 1, or prints how many were run.
+Prints what is not the same and exits 1, or prints how many commands were run.
 """
 
 import re
@@ -11,7 +12,8 @@ import tempfile
 from pathlib import Path
 
 ROOT = Path(__file__).resolve().parent.parent
-LEAST_COMMANDS = 13
+LEAST_COMMANDS = 17
+PICTURE = "standby.svg"
 
 
 def blocks(page, language):
@@ -26,13 +28,18 @@ def commands(page):
             yield command.split(), text
 
 
+def texts(page):
+    """Each text that the page says to save, by its name."""
+    return re.findall(r"[Ss]ave this as `([\w.]+)`:\n\n```\w+\n(.*?)^```$", page, re.MULTILINE | re.DOTALL)
+
+
 def main():
     page = (ROOT / "docs" / "GUIDE.md").read_text(encoding="utf-8")
-    [program] = blocks(page, "python")
     ran = failed = 0
     with tempfile.TemporaryDirectory() as folder:
         Path(folder, "examples").symlink_to(ROOT / "examples")
-        Path(folder, "make_standby.py").write_text(program, encoding="utf-8")
+        for name, text in texts(page):
+            Path(folder, name).write_text(text, encoding="utf-8")
         for words, text in commands(page):
             words = [str(ROOT / "nekbrod") if word == "./nekbrod" else word for word in words]
             run = subprocess.run(words, cwd=folder, stdout=subprocess.PIPE, stderr=subprocess.DEVNULL, text=True)
@@ -41,6 +48,9 @@ def main():
             if found != text:
                 failed += 1
                 print(f"{' '.join(words)}: the page has\n{text}and there came\n{found}")
+        if Path(folder, PICTURE).read_bytes() != (ROOT / "docs" / PICTURE).read_bytes():
+            failed += 1
+            print(f"docs/{PICTURE} is another picture than the page's commands make")
     print(f"guide.py: {ran} commands run, {failed} failed")
     return 0 if failed == 0 and LEAST_COMMANDS <= ran else 1
 

@@ -3,41 +3,47 @@
 # drawn holds every interval.
 import collections
 import decimal
-import fractions
 import math
+from fractions import Fraction
 from xml.sax.saxutils import escape
 
 from desk.refusal import UNIT
 from desk.shown.tables import columns, one_line, probability
 
-WIDTH, HEIGHT = 72000, 48000
-LEFT, RIGHT, BOTTOM = 7600, 67600, 37200
-MARGIN = 2400
-# Room beside the band on a logarithmic axis, and up to its smallest probability where 0 stands at the left edge.
-ROOM, ROOM_FROM_ZERO, BREAK = 2400, 8000, 3000
+WIDTH, HEIGHT, MARGIN = 72000, 48000, 2400
+LEFT, RIGHT, BOTTOM = 7600, 67000, 37200
+# The room beside the band on a logarithmic axis. Where 0 stands at the left edge, so far off it come the break of the
+# axis, the first tick, which leaves room for the label 0, and the smallest positive probability.
+ROOM, BREAK, TICKS_FROM_ZERO, ROOM_FROM_ZERO = 2400, 3000, 5600, 8000
+# A decade of at least this length has a tick for each digit.
+LONG_DECADE = 12000
 LABEL_SIZE, LABEL_GAP = 1200, 800
-TITLE_SIZE, TITLE_LINE = 1800, 2300
-# With more levels than this, dots at every end would only be a thicker outline.
+TITLE_SIZE, TITLE_LINE, FIRST_LINE = 1800, 2300, 3300
+LEGEND_LINES = 43900, 46000
+# With more levels than this, dots at all ends would only be a thicker outline.
 MOST_DOTTED_LEVELS = 100
 INK, GREY, GRID, LINE, FILL, DOT = "#1a1a1a", "#4d4d4d", "#dedede", "#1f4e79", "#bcd4ea", "#b34700"
+# The grid shows through the band.
+CLEAR = "0.75"
 
 STEPS = sorted(digits * 10 ** zeros for digits in (1, 2, 5, 25) for zeros in range(10) if digits * 10 ** zeros <= UNIT)
+# Correctly rounded, and so alike everywhere, as the logarithms of a machine are not.
 PRECISE = decimal.Context(prec=28)
 
-# A probability on the axis: where it stands, and its label, "" for none.
+# A probability on the axis: its place, and its label, "" for none.
 Tick = collections.namedtuple("Tick", "place label")
 
 
 def picture(levels, title):
-    """The document: levels up to level n, and between two levels the wider interval, that of the lower one."""
+    """The document: up to each level the interval of the level below it, which is the wider one."""
     title = one_line(title or "").strip() or "top event"
     lines = title_lines(title)
     top = 9400 + TITLE_LINE * (len(lines) - 1)
     scale = scale_of(levels)
-    parts = [
+    return "\n".join([
         *opening(levels, title, scale), *heading(levels, lines), *grid(levels, scale, top), *band(levels, scale, top),
-        *dots(levels, scale, top), *axes(levels, scale, top), *legend(levels), "</svg>", ""]
-    return "\n".join(parts)
+        *dots(levels, scale, top), *axis_lines(levels, scale, top), *axis_words(levels, scale, top), *legend(levels),
+        "</svg>", ""])
 
 
 def scale_of(levels):
@@ -63,25 +69,24 @@ class Linear:
     def __init__(self, low, high):
         self.first, self.last = linear_range(low, high)
         self.step = linear_step(self.first, self.last)
-        # Fewer than four ticks: the axis goes on to the next tick on both sides.
+        # With fewer than four ticks the axis goes on to the next tick on both sides.
         if len(self.values()) < 4:
             self.first -= self.first % self.step
             self.last += -self.last % self.step
+        self.ticks = [Tick(self.place(value), step_label(value, self.step)) for value in self.values()]
 
     def place(self, value):
-        return LEFT + fractions.Fraction((value - self.first) * (RIGHT - LEFT), self.last - self.first)
+        return LEFT + Fraction((value - self.first) * (RIGHT - LEFT), self.last - self.first)
 
     def values(self):
         return range(self.first + -self.first % self.step, self.last + 1, self.step)
 
-    def ticks(self):
-        return [Tick(self.place(value), step_label(value, self.step)) for value in self.values()]
-
 
 def linear_range(low, high):
-    """The ends of a linear axis: room on both sides, from 0 where that is near, and at least three billionths."""
+    """Both ends of a linear axis: room beside the band, from 0 where that is near, and three billionths or more."""
     if low == high:
-        return 0, min([step for step in STEPS if step >= max(4, 5 * low // 4)], default=UNIT) if low else UNIT
+        wanted = 5 * low // 4 if low else UNIT
+        return 0, next(step for step in STEPS if step >= min(UNIT, max(4, wanted)))
     room = max(1, (high - low) // 20)
     first = max(0, low - room) if low > (high - low) // 4 else 0
     last = min(UNIT, high + room)
@@ -89,19 +94,17 @@ def linear_range(low, high):
 
 
 def linear_step(first, last):
-    """The smallest round step with at most nine ticks whose labels stand apart."""
-    for step in STEPS:
-        count = last // step - (first - 1) // step
-        widest = text_width(step_label(last, step), LABEL_SIZE)
-        if count <= 9 and (widest + LABEL_GAP) * (last - first) <= step * (RIGHT - LEFT):
-            return step
-    return UNIT
+    """The smallest round step that makes at most nine ticks, whose labels stand apart."""
+    def suits(step):
+        wanted = text_width(step_label(last, step), LABEL_SIZE) + LABEL_GAP
+        return last // step - (first - 1) // step <= 9 and wanted * (last - first) <= step * (RIGHT - LEFT)
+    return next(filter(suits, STEPS))
 
 
 def step_label(value, step):
-    """A probability with the digits that the steps need; 0 as it is."""
-    digits = 9 - (len(str(step)) - len(str(step).rstrip("0")))
-    return probability(value)[:2 + digits].rstrip(".") if value else "0"
+    """A probability with the digits that multiples of the step need; 0 has none after the point."""
+    zeros = len(str(step)) - len(str(step).rstrip("0"))
+    return probability(value)[:11 - zeros] if value else "0"
 
 
 class Logarithmic:
@@ -112,51 +115,59 @@ class Logarithmic:
 
     def __init__(self, smallest, largest, broken):
         self.broken = broken
-        self.low, self.high = PRECISE.log10(smallest), PRECISE.log10(largest)
         self.start = LEFT + (ROOM_FROM_ZERO if broken else ROOM)
-        self.end = RIGHT if largest == UNIT else RIGHT - ROOM
+        self.first = LEFT + TICKS_FROM_ZERO if broken else LEFT
+        self.low = logarithm(smallest)
+        self.decade = (RIGHT - ROOM - self.start) / (logarithm(largest) - self.low)
+        # The axis does not go beyond 1.
+        if self.place(UNIT) < RIGHT:
+            self.decade = (RIGHT - self.start) / (logarithm(UNIT) - self.low)
+        labelled = self.labelled()
+        self.ticks = sorted(labelled + self.bare([tick.place for tick in labelled]))
 
     def place(self, value):
-        if value == 0:
-            return LEFT
-        part = PRECISE.divide(PRECISE.log10(value) - self.low, self.high - self.low)
-        return self.start + PRECISE.multiply(part, self.end - self.start)
+        return self.start + (logarithm(value) - self.low) * self.decade if value else Fraction(LEFT)
 
-    def ticks(self):
-        """All decades, and 2 and 5 between them, with as many labels as stand apart."""
-        zero = [Tick(LEFT, "0")] if self.broken else []
-        decades = [self.in_sight(1, zeros) for zeros in range(10)]
-        between = [self.in_sight(2, zeros) + self.in_sight(5, zeros) for zeros in range(9)]
-        # Every decade has its label, or every second or third one.
+    def labelled(self):
+        """The ticks of 0 and the decades, and of 2 and 5 between them, as many as stand apart."""
+        zero = [Tick(self.place(0), "0")] if self.broken else []
+        # Every decade, or else every second one or third one up to 1.
         for stride in range(1, 10):
-            labelled = zero + sum(decades[9 % stride::stride], [])
-            if stand_apart(labelled):
+            chosen = zero + self.in_sight(10 ** zeros for zeros in range(9 % stride, 10, stride))
+            if stand_apart(chosen):
                 break
-        for pair in between if stride == 1 else []:
-            more = sorted(labelled + pair)
-            labelled = more if stand_apart(more) else labelled
-        places = {tick.place for tick in labelled}
-        bare = [Tick(tick.place, "") for tick in sum(decades + between, []) if tick.place not in places]
-        return sorted(labelled + bare)
+        for zeros in range(9) if stride == 1 else []:
+            more = sorted(chosen + self.in_sight([2 * 10 ** zeros, 5 * 10 ** zeros]))
+            chosen = more if stand_apart(more) else chosen
+        return chosen
 
-    def in_sight(self, digit, zeros):
-        """The tick of a digit with so many zeros, in billionths, or none where it is off the axis."""
-        value = digit * 10 ** zeros
-        place = self.place(value)
-        first = LEFT + BREAK + LABEL_GAP if self.broken else LEFT
-        return [Tick(place, probability(value).rstrip("0").rstrip("."))] if first <= place <= RIGHT else []
+    def bare(self, taken):
+        """The ticks without a label, at places that are not taken."""
+        digits = range(1, 10) if self.decade >= LONG_DECADE else (1, 2, 5)
+        ticks = self.in_sight(digit * 10 ** zeros for zeros in range(10) for digit in digits)
+        return [Tick(tick.place, "") for tick in ticks if tick.place not in taken]
+
+    def in_sight(self, values):
+        """The ticks of the values that stand on the axis."""
+        ticks = [Tick(self.place(value), probability(value).rstrip("0").rstrip("."))
+                 for value in values if value <= UNIT]
+        return [tick for tick in ticks if self.first <= tick.place <= RIGHT]
+
+
+def logarithm(value):
+    return Fraction(PRECISE.log10(value))
 
 
 def stand_apart(ticks):
     """Whether no label comes near the next one, by an estimate of their widths."""
-    sides = [(tick.place - text_width(tick.label, LABEL_SIZE) // 2, tick.place + text_width(tick.label, LABEL_SIZE) // 2)
-             for tick in ticks]
+    sides = [(tick.place - half, tick.place + half) for tick in ticks
+             for half in [text_width(tick.label, LABEL_SIZE) // 2]]
     return all(one[1] + LABEL_GAP <= other[0] for one, other in zip(sides, sides[1:]))
 
 
 def text_width(text, size):
-    """An estimate that no common sans-serif font exceeds by much."""
-    return sum(size * character_width(c) // 100 for c in text)
+    """An estimate for a wide sans-serif font."""
+    return sum(size * character_width(character) // 100 for character in text)
 
 
 def character_width(character):
@@ -165,7 +176,7 @@ def character_width(character):
         return 50 * columns(character)
     if character in "ijl.,:;'|!":
         return 38
-    return 95 if character in "mwMW@%…—" else 78 if character.isupper() else 68
+    return 110 if character in "mwMW@%…—" else 84 if character.isupper() else 68
 
 
 def title_lines(title):
@@ -173,22 +184,21 @@ def title_lines(title):
     first = fitting(title)
     if first == title:
         return [title]
-    if " " in first.strip() and title[len(first)] != " ":
+    if " " in first and title[len(first)] != " ":
         first = first[:first.rindex(" ")]
-    rest = title[len(first):].strip()
-    second = fitting(rest)
-    return [first.strip(), rest if second == rest else fitting(rest, "…").rstrip() + "…"]
+    rest = title[len(first):].lstrip()
+    if fitting(rest) != rest:
+        rest = fitting(rest, "…").rstrip() + "…"
+    return [first.rstrip(), rest]
 
 
 def fitting(text, ending=""):
-    """The longest beginning of a text that has room on a line, with an ending; no letter is parted from its accents."""
+    """The longest beginning of a text that has room on a line with an ending; accents take none, and stay."""
     room = WIDTH - 2 * MARGIN - text_width(ending, TITLE_SIZE)
     end = 0
     while end < len(text) and room >= text_width(text[end], TITLE_SIZE):
         room -= text_width(text[end], TITLE_SIZE)
         end += 1
-    while 0 < end < len(text) and columns(text[end]) == 0:
-        end -= 1
     return text[:end]
 
 
@@ -196,9 +206,13 @@ def px(hundredths):
     return f"{hundredths // 100}.{hundredths % 100:02d}"
 
 
-def tag(name, content="", **attributes):
+def start(name, **attributes):
     words = "".join(f' {key.rstrip("_").replace("_", "-")}="{value}"' for key, value in attributes.items())
-    return f"<{name}{words}>{content}</{name}>" if content else f"<{name}{words}/>"
+    return f"<{name}{words}>"
+
+
+def tag(name, content="", **attributes):
+    return f"{start(name, **attributes)}{content}</{name}>"
 
 
 def words_at(x, y, text, **attributes):
@@ -210,7 +224,7 @@ def line(x1, y1, x2, y2, **attributes):
 
 
 def height_of(k, n, top):
-    """Where level k stands."""
+    """Where level k of n stands."""
     return BOTTOM - (2 * k * (BOTTOM - top) + n) // (2 * n)
 
 
@@ -223,68 +237,68 @@ def right_of(level, scale):
 
 
 def interval_words(level):
-    return f"{probability(level.lower.value)} to {probability(level.upper.value)}"
+    return f"level {level.k}: {probability(level.lower.value)} to {probability(level.upper.value)}"
 
 
-def count_words(levels):
-    events, steps = (f"{count} {word}{'' if count == 1 else 's'}" for count, word in
-                     ((levels.events, "basic event"), (levels.n, "level")))
-    return f"tree {levels.number}, {events}, {steps}"
+def tree_words(levels):
+    events = f"{levels.events} basic event{'' if levels.events == 1 else 's'}"
+    return f"tree {levels.number}, {events}, {levels.n} level{'' if levels.n == 1 else 's'}"
+
+
+def ends_words(levels):
+    return f"{interval_words(levels.levels[0])}; {interval_words(levels.levels[-1])}"
 
 
 def opening(levels, title, scale):
+    size = dict(width=WIDTH // 100, height=HEIGHT // 100, viewBox=f"0 0 {WIDTH // 100} {HEIGHT // 100}")
     yield '<?xml version="1.0" encoding="UTF-8"?>'
-    yield (f'<svg xmlns="http://www.w3.org/2000/svg" version="1.1" width="{WIDTH // 100}" height="{HEIGHT // 100}" '
-           f'viewBox="0 0 {WIDTH // 100} {HEIGHT // 100}" role="img" font-family="sans-serif" font-size="12" fill="{INK}">')
+    yield start("svg", xmlns="http://www.w3.org/2000/svg", version="1.1", **size, role="img",
+                font_family="sans-serif", font_size=px(LABEL_SIZE), fill=INK)
     yield tag("title", escape(title))
-    first, last = levels.levels[0], levels.levels[-1]
-    yield tag("desc", f"The probability of the top event as a fuzzy number, {count_words(levels)}, on a {scale.name} scale: "
-              f"at level {levels.n} {interval_words(first)}, at level 0 {interval_words(last)}; {exactness(levels)}.")
+    yield tag("desc", f"The probability of the top event as a fuzzy number on a {scale.name} scale. "
+                      f"{tree_words(levels)}; {ends_words(levels)}; {exactness(levels)}.")
     yield tag("rect", width="100%", height="100%", fill="#ffffff")
 
 
 def heading(levels, lines):
     for i, text in enumerate(lines):
-        yield words_at(MARGIN, 3300 + TITLE_LINE * i, text, font_size=px(TITLE_SIZE), font_weight="bold")
-    y = 3300 + TITLE_LINE * (len(lines) - 1)
-    yield words_at(MARGIN, y + 2100, count_words(levels), font_size="13", fill=GREY)
-    first, last = levels.levels[0], levels.levels[-1]
-    ends_words = f"level {levels.n}: {interval_words(first)}, level 0: {interval_words(last)}"
-    yield words_at(MARGIN, y + 4000, ends_words, font_size="13", fill=GREY)
+        yield words_at(MARGIN, FIRST_LINE + TITLE_LINE * i, text, font_size=px(TITLE_SIZE), font_weight="bold")
+    y = FIRST_LINE + TITLE_LINE * (len(lines) - 1)
+    yield words_at(MARGIN, y + 2100, tree_words(levels), font_size="13", fill=GREY)
+    yield words_at(MARGIN, y + 4000, ends_words(levels), font_size="13", fill=GREY)
+
+
+def possibilities(levels, top):
+    """The heights that have labels: such as are levels if some are, else fifths."""
+    parts = next((parts for parts in (5, 4, 2) if levels.n % parts == 0), 5)
+    return [(height_of(part, parts, top), step_label(part * UNIT // parts, UNIT // parts)) for part in range(parts + 1)]
 
 
 def grid(levels, scale, top):
-    yield f'<g class="grid" stroke="{GRID}">'
-    for tick in scale.ticks():
-        if tick.label:
-            yield line(round(tick.place), top, round(tick.place), BOTTOM)
-    for part, parts in possibilities(levels.n):
-        y = height_of(part, parts, top)
+    yield start("g", class_="grid", stroke=GRID)
+    for place, label in scale.ticks:
+        if label:
+            yield line(round(place), top, round(place), BOTTOM)
+    for y, _ in possibilities(levels, top):
         yield line(LEFT, y, RIGHT, y)
     yield "</g>"
 
 
-def possibilities(n):
-    """The parts of 1 that have labels: such as are levels where there are any, else fifths."""
-    parts = next((parts for parts in (5, 4, 2) if n % parts == 0), 5)
-    return [(part, parts) for part in range(parts + 1)]
-
-
 def band(levels, scale, top):
-    """The staircase, and level n as a bracket upon it."""
+    """The staircase, and the interval of level n as a bracket upon it."""
     left, right = [], []
     for level in reversed(levels.levels):
-        y, above = height_of(level.k, levels.n, top), height_of(min(level.k + 1, levels.n), levels.n, top)
-        left += [(left_of(level, scale), y), (left_of(level, scale), above)]
-        right += [(right_of(level, scale), y), (right_of(level, scale), above)]
+        for y in height_of(level.k, levels.n, top), height_of(min(level.k + 1, levels.n), levels.n, top):
+            left.append((left_of(level, scale), y))
+            right.append((right_of(level, scale), y))
     points = " ".join(f"{px(x)},{px(y)}" for x, y in left + right[::-1])
-    yield tag("polygon", class_="band", points=points, fill=FILL, fill_opacity="0.75", stroke=LINE, stroke_width="1.5")
-    yield bracket(left[-1][0], right[-1][0], top, "level-n")
+    yield tag("polygon", class_="band", points=points, fill=FILL, fill_opacity=CLEAR, stroke=LINE, stroke_width="1.5")
+    yield bracket(left[-1][0], right[-1][0], top, class_="level-n")
 
 
-def bracket(left, right, y, name):
-    d = f"M{px(left)} {px(y - 700)}V{px(y)}H{px(right)}V{px(y - 700)}"
-    return tag("path", class_=name, d=d, fill="none", stroke=LINE, stroke_width="2")
+def bracket(left, right, y, **attributes):
+    path = f"M{px(left)} {px(y - 700)}V{px(y)}H{px(right)}V{px(y - 700)}"
+    return tag("path", d=path, fill="none", stroke=LINE, stroke_width="2", **attributes)
 
 
 def is_dotted(levels):
@@ -293,11 +307,11 @@ def is_dotted(levels):
 
 
 def dots(levels, scale, top):
-    """A dot where an exact end stands at its level."""
+    """A dot for each exact end, at the height of its level."""
     if not is_dotted(levels):
         return
-    radius = px(300 if levels.n <= 20 else 200 if levels.n <= MOST_DOTTED_LEVELS else 100)
-    yield f'<g class="exact" fill="{DOT}">'
+    radius = px(300 if levels.n <= 20 else 200 if levels.n <= MOST_DOTTED_LEVELS else 80)
+    yield start("g", class_="exact", fill=DOT)
     for level in levels.levels:
         for end, x in (level.lower, left_of(level, scale)), (level.upper, right_of(level, scale)):
             if end.exact:
@@ -311,48 +325,53 @@ def exactness(levels):
         return "no end is exact: each is rounded outward, to the safe side"
     if not all(exact):
         return "an end with a dot is exact, one without is rounded outward"
-    return "every end is exact" + ("" if is_dotted(levels) else ", and has no dot, since the levels are too many")
+    undotted = "" if is_dotted(levels) else f" (no dots with more than {MOST_DOTTED_LEVELS} levels)"
+    return f"every end is exact{undotted}"
 
 
-def axes(levels, scale, top):
-    yield f'<g class="axes" stroke="{GREY}">'
+def axis_lines(levels, scale, top):
+    yield start("g", class_="axes", stroke=GREY)
     yield line(LEFT, top, LEFT, BOTTOM)
     yield line(LEFT, BOTTOM, RIGHT, BOTTOM)
-    for tick in scale.ticks():
-        yield line(round(tick.place), BOTTOM, round(tick.place), BOTTOM + (600 if tick.label else 350))
-    for part, parts in possibilities(levels.n):
-        y = height_of(part, parts, top)
+    for place, label in scale.ticks:
+        yield line(round(place), BOTTOM, round(place), BOTTOM + (600 if label else 350))
+    for y, _ in possibilities(levels, top):
         yield line(LEFT - 600, y, LEFT, y)
     if scale.broken:
         yield line(LEFT + BREAK - 300, BOTTOM, LEFT + BREAK + 300, BOTTOM, stroke="#ffffff", stroke_width="3")
         for x in LEFT + BREAK - 300, LEFT + BREAK + 300:
             yield line(x - 250, BOTTOM + 500, x + 250, BOTTOM - 500)
     yield "</g>"
-    yield '<g class="probabilities" text-anchor="middle">'
-    for tick in scale.ticks():
-        if tick.label:
-            yield words_at(round(tick.place), BOTTOM + 1900, tick.label)
+
+
+def axis_words(levels, scale, top):
+    yield start("g", class_="probabilities", text_anchor="middle")
+    for place, label in scale.ticks:
+        if label:
+            yield words_at(round(place), BOTTOM + 1900, label)
     yield "</g>"
-    yield '<g class="possibilities" text-anchor="end">'
-    for part, parts in possibilities(levels.n):
-        label = step_label(part * UNIT // parts, UNIT // parts)
-        yield words_at(LEFT - 1000, height_of(part, parts, top) + 420, label)
+    yield start("g", class_="possibilities", text_anchor="end")
+    for y, label in possibilities(levels, top):
+        yield words_at(LEFT - 1000, y + 420, label)
     yield "</g>"
-    x, y = (LEFT + RIGHT) // 2, (top + BOTTOM) // 2
-    yield words_at(x, BOTTOM + 4000, scale.axis_title + ", reported to a billionth (0.000000001)",
+    yield words_at((LEFT + RIGHT) // 2, BOTTOM + 4000, f"{scale.axis_title}, reported to a billionth (0.000000001)",
                    font_size="13", text_anchor="middle")
-    yield words_at(3000, y, f"possibility (level / {levels.n})", font_size="13", text_anchor="middle",
-                   transform=f"rotate(-90 {px(3000)} {px(y)})")
+    x, y = 3000, (top + BOTTOM) // 2
+    yield words_at(x, y, f"possibility (level / {levels.n})", font_size="13", text_anchor="middle",
+                   transform=f"rotate(-90 {px(x)} {px(y)})")
 
 
 def legend(levels):
-    y, second = 43900, 46000
-    yield f'<g class="legend" font-size="11" fill="{GREY}">'
-    yield tag("rect", x=px(LEFT), y=px(y - 900), width="18", height="11", fill=FILL, fill_opacity="0.75", stroke=LINE)
-    yield words_at(LEFT + 2600, y, "between two levels: the interval of the lower one, so that the fuzzy number lies inside")
-    yield bracket(LEFT, LEFT + 1800, second - 100, "key")
-    yield words_at(LEFT + 2600, second, f"level {levels.n}")
+    first, second = LEGEND_LINES
+    yield start("g", class_="legend", font_size="11", fill=GREY)
+    yield tag("rect", x=px(LEFT), y=px(first - 900), width="18", height="11", fill=FILL, fill_opacity=CLEAR,
+              stroke=LINE)
+    yield words_at(LEFT + 2600, first,
+                   "between two levels: the interval of the lower one, so that the fuzzy number lies inside")
+    yield bracket(LEFT, LEFT + 1800, second - 100)
+    yield words_at(LEFT + 2600, second, f"interval of level {levels.n}")
+    dot = LEFT + 18500
     if is_dotted(levels):
-        yield tag("circle", cx=px(LEFT + 10700), cy=px(second - 400), r="3", fill=DOT)
-    yield words_at(LEFT + 11700, second, exactness(levels))
+        yield tag("circle", cx=px(dot), cy=px(second - 400), r="3", fill=DOT)
+    yield words_at(dot + 900 if is_dotted(levels) else dot, second, exactness(levels))
     yield "</g>"

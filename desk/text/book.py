@@ -21,10 +21,9 @@ PARTS = "write an event, a first hour and an end hour"
 def read_book(file, data):
     """The windows, in their order; or Faulty, with the first fault of each row."""
     rows = read_cells(file, data)
-    titles = rows[:has_titles(rows)]
-    rows = rows[len(titles):]
+    titles = rows.pop(0) if has_titles(rows) else []
     windows, faults = read_rows(rows[:MOST_WINDOWS], lambda cells: window(file, cells))
-    faults = [fault for row in titles for fault in title_faults(file, row)] + faults
+    faults = title_faults(file, titles) + faults
     for event, *_ in rows[MOST_WINDOWS:MOST_WINDOWS + 1]:
         faults.append(Fault(file, event.place, f"the window is the book's {MOST_WINDOWS + 1}th, and a book holds "
                             f"{MOST_WINDOWS}", "leave out windows that are over"))
@@ -34,23 +33,22 @@ def read_book(file, data):
 
 
 def title_faults(file, titles):
-    """The first hour that stands among the titles, where a window would be lost."""
-    hours = [cell for cell in titles[1:] if re.fullmatch("[0-9]+", cell.text)]
+    """The first hour that stands among the titles, since a window would be lost with it."""
+    hours = [cell for cell in titles[1:] if re.match("[0-9]", cell.text)]
     return [Fault(file, cell.place, f"the hour {shown(cell.text)} stands in the row of titles",
                   'write titles above the windows if an event is named "event"') for cell in hours[:1]]
 
 
 def window(file, cells):
     event, *hours = cells
-    while hours and not hours[-1].text:
-        hours.pop()
     if not event.text:
         raise faulty(file, event, "the window has no event", "write the name of a basic event in its first cell")
-    for title, cell in itertools.zip_longest(TITLES[1:], hours):
-        if title is None:
-            raise faulty(file, cell, f"{shown(cell.text)} stands after the end hour", PARTS)
+    for title, cell in itertools.zip_longest(TITLES[1:], hours[:2]):
         if cell is None or not cell.text:
             raise faulty(file, cell or event, f"the window of {shown(event.text)} has no {title}", PARTS)
+    for cell in hours[2:]:
+        if cell.text:
+            raise faulty(file, cell, f"{shown(cell.text)} stands after the end hour", PARTS)
     first, end = (read_hour(file, title, cell) for title, cell in zip(TITLES[1:], hours))
     if end <= first:
         raise faulty(file, hours[1], f"the end hour {end} is not after the first hour {first}",

@@ -10,10 +10,10 @@ from desk.text.faults import Fault, Faulty, Place
 Cell = collections.namedtuple("Cell", "text place")
 
 LINE_END = "\r\n|\r|\n"
-# The space, and the no-break spaces that spreadsheets and typists put in its place.
-SPACES = " \u00a0\u202f"
-NO_SPACE = re.compile(f"[^{SPACES}]")
-CONTROL = re.compile("[\x00-\x1f\x7f-\x9f\u2028\u2029]")
+# Any kind of space is one, the no-break spaces of spreadsheets too.
+NO_SPACE = re.compile(r"\S")
+# Control characters, ends of lines and paragraphs, and a byte-order mark that does not begin the file.
+CONTROL = re.compile("[\x00-\x1f\x7f-\x9f\u2028\u2029\ufeff\ufffe\uffff]")
 SAVE_AS_UTF_8 = "save it as CSV UTF-8"
 # A longer text is shown by its beginning.
 MOST_SHOWN = 60
@@ -85,11 +85,12 @@ def separator_and_start(file, text):
     """What stands between the cells, and where the first row begins: after a line that names the separator."""
     named = re.match(f"sep=([^\r\n])(?:{LINE_END}|\\Z)", text, re.IGNORECASE)
     if named and named[1] not in ",;":
-        raise Faulty(Fault(file, Lines(text).place(named.start(1)), f'the separator is "{named[1]}"',
+        raise Faulty(Fault(file, Lines(text).place(named.start(1)),
+                           "the separator is neither a comma nor a semicolon",
                            "save the file with commas or semicolons between its cells"))
     if named:
         return named[1], named.end()
-    filled = [row for row in matched_rows(text, 0, ",;") if len(row) > 1 or row[0][0].strip()]
+    filled = [row for row in matched_rows(text, 0, ",;") if row[0].group().strip()]
     semicolons = [any(match["end"] == ";" for match in row) for row in filled]
     return (";" if filled and all(semicolons) else ","), 0
 
@@ -108,7 +109,7 @@ def matched_rows(text, start, separators):
 
 def cell_text(match):
     text = match["plain"] if match["quoted"] is None else match["quoted"].replace('""', '"')
-    return re.sub(f"[{SPACES}]+", " ", text).strip(" ")
+    return " ".join(text.split())
 
 
 def cell_start(match):
@@ -128,7 +129,7 @@ def cell_fault(match):
         return (control.start(), *control_words(control[0]))
     after = NO_SPACE.search(match.string, match.start("after"), end) if quoted else None
     if after:
-        return after.start(), "text stands after the closing quote", "quote the whole cell, and double quotes within it"
+        return after.start(), "text stands after the closing quote", "put the whole cell in quotes, and double those within"
     return None
 
 
@@ -139,7 +140,7 @@ def control_words(control):
     if control == "\t":
         return "the cell has a tab", "write a space, or save the file with commas or semicolons between its cells"
     if control in "\r\n":
-        return "the cell has a line break", "write its text in one line"
+        return "the cell has a line break", "write its text in one line, and see that its quote ends"
     return f"the cell has the control character U+{ord(control):04X}", "take it out"
 
 

@@ -164,7 +164,8 @@ class Reader:
         if first.quoted:
             self.refuse(first.place, f'a name stands where the kind of the gate "{name}" is due',
                         "write and or or before its inputs, and end each statement with ;")
-        figure = FIGURE.match(first.text + (rest[0].text if rest and rest[0].text.startswith("=") else ""))
+        # An equals sign may stand apart from its figure.
+        figure = FIGURE.match(first.text + (keyword(rest[0])[:1] if rest else ""))
         if figure:
             self.refuse(first.place, f'the event "{name}" has the figure {figure.group(1)}', leave(name))
         kind = keyword(first)

@@ -73,19 +73,27 @@ class Parser:
 
     def __init__(self, file, data):
         self.file, self.elements, self.open = file, [], []
-        self.mark = 1 if data.startswith(BYTE_ORDER_MARKS) else 0
+        self.encoding, self.mark = "utf-8", 1 if data.startswith(BYTE_ORDER_MARKS) else 0
         self.expat = expat.ParserCreate()
         self.expat.XmlDeclHandler = self.declare
-        self.expat.StartDoctypeDeclHandler = self.refuse_doctype
+        self.expat.DefaultHandler = self.refuse_doctype
         self.expat.StartElementHandler = self.start
         self.expat.EndElementHandler = lambda tag: self.open.pop()
         self.expat.CharacterDataHandler = self.take_text
         try:
             self.expat.Parse(data, True)
         except expat.ExpatError as error:
-            raise Faulty(Fault(file, self.place(error.lineno, error.offset),
-                               f"the XML is not well formed ({expat.ErrorString(error.code)})",
-                               "correct it, or export it again from the program it comes from")) from None
+            raise Faulty(Fault(file, self.place(error.lineno, error.offset), *self.unread(data, error))) from None
+
+    def unread(self, data, error):
+        """Why expat stopped, and what can be done."""
+        try:
+            data.decode(self.encoding)
+        except UnicodeDecodeError as undecoded:
+            if undecoded.start == self.expat.ErrorByteIndex:
+                return f"a byte is not in the encoding {self.encoding}", "save the file as UTF-8"
+        return (f"the XML cannot be read: {expat.ErrorString(error.code)}",
+                "correct it, or export it again from the program that it comes from")
 
     def place(self, line, before):
         """A byte-order mark is counted by expat, and is no character of the first line."""
@@ -96,11 +104,14 @@ class Parser:
 
     def declare(self, version, encoding, standalone):
         if encoding and not ENCODING.fullmatch(encoding):
-            raise Faulty(Fault(self.file, self.here(), f'the encoding "{encoding}" is not known', "save it as UTF-8"))
+            raise Faulty(Fault(self.file, self.here(), f'the encoding "{encoding}" is not known',
+                               "save the file as UTF-8"))
+        self.encoding = encoding or self.encoding
 
-    def refuse_doctype(self, *declared):
-        raise Faulty(Fault(self.file, self.here(), "the file declares a document type",
-                           "take the DOCTYPE out, and write its entities as what they stand for"))
+    def refuse_doctype(self, markup):
+        if markup == "<!DOCTYPE":
+            raise Faulty(Fault(self.file, self.here(), "the file declares a document type",
+                               "take the DOCTYPE out, and write what its entities stand for in their place"))
 
     def start(self, tag, attributes):
         element = Element(tag, attributes, self.here())
@@ -259,11 +270,12 @@ class Model:
 
     def referred(self, reference):
         """The name of the node that a reference is to, or None."""
-        self.members(reference)
         reference.name = self.name(reference)
+        self.members(reference)
         kind = reference.attributes.get("type", "event") if reference.tag == "event" else reference.tag
         if kind not in REFERENCES:
-            self.tell(reference, f"the type of {reference} is neither gate nor basic-event", NO_HOUSE_EVENT)
+            self.tell(reference, f"the type of {reference} is neither gate nor basic-event",
+                      NO_HOUSE_EVENT if kind == "house-event" else "write one of them, or no type")
         elif reference.name is not None:
             name = self.defined(reference.name)
             if kind == "event" and (name in self.gates or name in self.events):

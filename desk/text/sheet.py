@@ -10,6 +10,8 @@ from desk.text.faults import Fault, Faulty, Place
 from desk.text.figures import FORMS, NoFigure, begins_as_figure, decimal_text, read_figure
 from desk.refusal import ENTRY, EXPERTS, MOST_DENOMINATOR, MOST_NODES, SHEET_HEADER, UNIT
 
+# The header of a sheet file: letters, version, tree number, events, experts and their scores.
+HEADER, LETTERS, VERSION = f"<3sHHHB{EXPERTS}s", b"FTS", 1
 # The kinds of an entry, as the sheet file has them.
 NUMBERS, OPINIONS, FRACTIONS = 0, 1, 2
 
@@ -67,7 +69,8 @@ def read_experts(file, names, scores):
     experts, faults, seen = [], [], {}
     for number, (name, score) in enumerate(columns, 1):
         wrong = expert_fault(number, name, score, seen)
-        faults += [Fault(file, *wrong)] if wrong else []
+        if wrong:
+            faults.append(Fault(file, *wrong))
         seen.setdefault(name.text, name)
         experts.append(Expert(name.text, None if wrong else int(score.text.lstrip("0"))))
     return experts, faults
@@ -112,6 +115,8 @@ class RowReader:
             raise self.faulty(name, f"the event {shown(name.text)} has nothing but its name",
                               f"write {either}figures: {COUNTS}")
         first = next(cell for cell in values if cell.text)
+        if not is_term(first) and not begins_as_figure(first.text):
+            raise self.neither(first)
         entry = self.opinions(values) if is_term(first) else self.figures(name, values)
         return Row(name.text, entry, name.place)
 
@@ -188,8 +193,9 @@ class RowReader:
         for i, (lower, upper) in enumerate(zip(figures, figures[1:])):
             if lower.numerator * upper.denominator > upper.numerator * lower.denominator:
                 called = CALLED[len(figures)]
-                raise self.faulty(cells[i + 1], f"the figures do not rise: {called[i]}, {shown(cells[i].text)}, is above "
-                                  f"{called[i + 1]}, {shown(cells[i + 1].text)}", "write them from the lowest to the highest")
+                found = (f"the figures do not rise: {called[i]}, {shown(cells[i].text)}, "
+                         f"is above {called[i + 1]}, {shown(cells[i + 1].text)}")
+                raise self.faulty(cells[i + 1], found, "write them from the lowest to the highest")
 
 
 def is_term(cell):
@@ -198,7 +204,7 @@ def is_term(cell):
 
 def sheet_data(number, scores, entries):
     """The bytes of a sheet file."""
-    header = b"FTS" + pack("<HHHB", 1, number, len(entries), len(scores)) + bytes(scores).ljust(EXPERTS, b"\0")
+    header = pack(HEADER, LETTERS, VERSION, number, len(entries), len(scores), bytes(scores))
     return header + b"".join(map(entry_data, entries))
 
 
@@ -214,10 +220,9 @@ def entry_data(entry):
 
 def held_sheet(data):
     """The tree's number, the experts' scores and the entries of an accepted sheet file."""
-    number, events, experts = unpack_from("<HHB", data, 5)
-    scores = list(data[10:10 + experts])
+    _, _, number, events, experts, scores = unpack_from(HEADER, data)
     places = range(SHEET_HEADER, SHEET_HEADER + ENTRY * events, ENTRY)
-    return number, scores, [held_entry(data[at:at + ENTRY], experts) for at in places]
+    return number, list(scores[:experts]), [held_entry(data[at:at + ENTRY], experts) for at in places]
 
 
 def held_entry(data, experts):
