@@ -76,8 +76,8 @@ class LevelPair(TwoFiles):
 
 
 class LoneFile(TwoFiles):
-    """A tree file or an opinion sheet by itself, for the level printer: an accepted file stands in for the other one, so
-    that every refusal but 24 is its own."""
+    """A tree file or a sheet by itself, for the level printer: an accepted file stands in for the other one, so that
+    every refusal but 24 is its own."""
 
     levels, levels_field = 1, b"\1\0"
 
@@ -94,7 +94,7 @@ class LoneFile(TwoFiles):
 
 
 class LoneBook(HourPair):
-    """A book of work windows with an accepted tree file, for the hour printer: a sheet of zeros stands in for its own."""
+    """A book with an accepted tree file, for the hour printer: a sheet of zeros stands in for the tree's own."""
 
     levels, levels_field = 1, b"\1\0"
     hour, hour_field = 0, bytes(4)
@@ -175,7 +175,7 @@ def run(title, program, asked, signals, **more):
 
 
 def printed_text(title, what, program, asked, signals):
-    """The text of the level printer, the hour printer or the node printer: levels or nodes, or one line of a refusal."""
+    """The text of the level, the hour or the node printer: levels or nodes, or one line of a refusal."""
     text = run(title, program, asked, signals)
     if not text.startswith((b"tree ", b"refused ", b"input")):
         raise Stop(3, f"{title} gave neither {what} nor a refusal")

@@ -28,7 +28,7 @@ extern "C" {
 #endif
 
 /* The version of this header: major, minor and patch, a byte each. nekbrod_version answers that of the library. */
-#define NEKBROD_VERSION 0x000600u
+#define NEKBROD_VERSION 0x000700u
 
 /* Ends are counted in units: one unit is a billionth, so this is the probability 1. */
 #define NEKBROD_ONE 1000000000u

@@ -15,7 +15,7 @@ import time
 from command_runs import (
     CAN_BE_SHUT_OUT, CRATES, CUT_SETS, FUEL_LEVELS, HOUR_LEVELS, IS_ROOT, LAST_HOUR, LEVELS, LONGEST, MIRROR, NOBODY,
     PLAN, PROGRAMS, PUMPS, PYTHON, ROAD, ROAD_LEVELS, ROOT, SHUT_OUT, UNIT, Copy, Run, ended, finish, hold,
-    on_terminal, printed, read, run, skipped, start, stopped, until, write)
+    on_terminal, printed, read, run, skipped, stopped, until, write)
 
 
 def shipped_examples():

@@ -190,7 +190,7 @@ def exact_ends(root, cuts):
 
 
 def answered(name, files, root, numbers, n):
-    """Every level's ends against the exact ones: on the safe side, less than 2 × E − 1 units off, and marked if exact."""
+    """Every level's ends and the exact ones: on the safe side, less than 2 × E − 1 units off, and marked if exact."""
     tree, sheet = files["tree.ftf"], files["sheet.fts"]
     given = b"".join(number.to_bytes(2, "little") for number in (n, len(tree), len(sheet))) + tree + sheet
     text = subprocess.run([LEVELS], input=given, stdout=subprocess.PIPE).stdout.decode()
@@ -243,9 +243,11 @@ def one_pair(draw, name, folder, through_command):
     write(paths[1], as_csv(draw, experts, [(event, cells) for event, (cells, _) in entries.items()]))
     by_rows = draw.random() < 0.5
     files, _ = made_of(paths, None, by_rows)
-    hold(f"{name}: the tree's number", files["tree.ftf"][5:7] == (1 if number is None else number).to_bytes(2, "little"))
+    due = 1 if number is None else number
+    hold(f"{name}: the tree's number", files["tree.ftf"][5:7] == due.to_bytes(2, "little"))
     if by_rows:
-        hold(f"{name}: the events in the order of rows", parse_names(files["names.txt"].decode()).events() == list(entries))
+        events_written = parse_names(files["names.txt"].decode()).events()
+        hold(f"{name}: the events in the order of rows", events_written == list(entries), events_written)
     answered(name, files, root, {event: four for event, (_, four) in entries.items()}, draw.choice([1, 2, 3, 10]))
     shown_again(name, folder, files)
     if through_command:

@@ -1,4 +1,4 @@
-# A tree's text and its sheet's spreadsheet, and a book's where there is one, as files for the monitor, with their names.
+# A tree's text and its sheet's spreadsheet, and a book's where there is one, as files for the monitor, with names.
 import os
 
 from desk.asked import read_number

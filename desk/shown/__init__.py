@@ -1,1 +1,2 @@
-# What people see: printed for the printers' texts, tables and plot for levels and nodes, holdings for what a file holds.
+# What people see: printed for the printers' texts, tables, and plot with its scale, for levels and nodes, holdings for
+# what a file holds.

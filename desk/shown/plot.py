@@ -1,23 +1,15 @@
 # The top event's fuzzy number as a picture: an SVG document, the same to the byte on every machine.
 # Lengths are in hundredths of a pixel. Lower ends are rounded to the left and upper ends to the right, so that what is
 # drawn holds every interval.
-import collections
-import decimal
 import math
-from fractions import Fraction
 from xml.sax.saxutils import escape
 
 from desk.refusal import UNIT
-from desk.shown.tables import columns, one_line, probability
+from desk.shown.scale import BREAK, LABEL_SIZE, LEFT, RIGHT, ends, scale_of, step_label, text_width
+from desk.shown.tables import one_line, probability
 
 WIDTH, HEIGHT, MARGIN = 72000, 48000, 2400
-LEFT, RIGHT, BOTTOM = 7600, 67000, 37200
-# The room beside the band on a logarithmic axis. Where 0 stands at the left edge, so far off it come the break of the
-# axis, the first tick, which leaves room for the label 0, and the smallest positive probability.
-ROOM, BREAK, TICKS_FROM_ZERO, ROOM_FROM_ZERO = 2400, 3000, 5600, 8000
-# A decade of at least this length has a tick for each digit.
-LONG_DECADE = 12000
-LABEL_SIZE, LABEL_GAP = 1200, 800
+BOTTOM = 37200
 TITLE_SIZE, TITLE_LINE, FIRST_LINE = 1800, 2300, 3300
 LEGEND_LINES = 43900, 46000
 # With more levels than this, dots at all ends would only be a thicker outline.
@@ -25,13 +17,6 @@ MOST_DOTTED_LEVELS = 100
 INK, GREY, GRID, LINE, FILL, DOT = "#1a1a1a", "#4d4d4d", "#dedede", "#1f4e79", "#bcd4ea", "#b34700"
 # The grid shows through the band.
 CLEAR = "0.75"
-
-STEPS = sorted(digits * 10 ** zeros for digits in (1, 2, 5, 25) for zeros in range(10) if digits * 10 ** zeros <= UNIT)
-# Correctly rounded, and so alike everywhere, as the logarithms of a machine are not.
-PRECISE = decimal.Context(prec=28)
-
-# A probability on the axis: its place, and its label, "" for none.
-Tick = collections.namedtuple("Tick", "place label")
 
 
 def picture(levels, title):
@@ -44,139 +29,6 @@ def picture(levels, title):
         *opening(levels, title, scale), *heading(levels, lines), *grid(levels, scale, top), *band(levels, scale, top),
         *dots(levels, scale, top), *axis_lines(levels, scale, top), *axis_words(levels, scale, top), *legend(levels),
         "</svg>", ""])
-
-
-def scale_of(levels):
-    """Logarithmic where the band spans a decade or more, else linear."""
-    positive = [end.value for end in ends(levels) if end.value > 0]
-    low, high = levels.levels[-1].lower.value, levels.levels[-1].upper.value
-    if positive and high >= 10 * min(positive):
-        return Logarithmic(min(positive), high, low == 0)
-    return Linear(low, high)
-
-
-def ends(levels):
-    return [end for level in levels.levels for end in (level.lower, level.upper)]
-
-
-class Linear:
-    """From one probability to another in round steps."""
-
-    name = "linear"
-    axis_title = "probability of the top event"
-    broken = False
-
-    def __init__(self, low, high):
-        self.first, self.last = linear_range(low, high)
-        self.step = linear_step(self.first, self.last)
-        # With fewer than four ticks the axis goes on to the next tick on both sides.
-        if len(self.values()) < 4:
-            self.first -= self.first % self.step
-            self.last += -self.last % self.step
-        self.ticks = [Tick(self.place(value), step_label(value, self.step)) for value in self.values()]
-
-    def place(self, value):
-        return LEFT + Fraction((value - self.first) * (RIGHT - LEFT), self.last - self.first)
-
-    def values(self):
-        return range(self.first + -self.first % self.step, self.last + 1, self.step)
-
-
-def linear_range(low, high):
-    """Both ends of a linear axis: room beside the band, from 0 where that is near, and three billionths or more."""
-    if low == high:
-        wanted = 5 * low // 4 if low else UNIT
-        return 0, next(step for step in STEPS if step >= min(UNIT, max(4, wanted)))
-    room = max(1, (high - low) // 20)
-    first = max(0, low - room) if low > (high - low) // 4 else 0
-    last = min(UNIT, high + room)
-    return max(0, min(first, last - 3)), min(UNIT, max(last, first + 3))
-
-
-def linear_step(first, last):
-    """The smallest round step that makes at most nine ticks, whose labels stand apart."""
-    def suits(step):
-        wanted = text_width(step_label(last, step), LABEL_SIZE) + LABEL_GAP
-        return last // step - (first - 1) // step <= 9 and wanted * (last - first) <= step * (RIGHT - LEFT)
-    return next(filter(suits, STEPS))
-
-
-def step_label(value, step):
-    """A probability with the digits that multiples of the step need; 0 has none after the point."""
-    zeros = len(str(step)) - len(str(step).rstrip("0"))
-    return probability(value)[:11 - zeros] if value else "0"
-
-
-class Logarithmic:
-    """From the smallest positive probability to the largest by decades; 0 stands at the left edge, past a break."""
-
-    name = "logarithmic"
-    axis_title = "probability of the top event (logarithmic)"
-
-    def __init__(self, smallest, largest, broken):
-        self.broken = broken
-        self.start = LEFT + (ROOM_FROM_ZERO if broken else ROOM)
-        self.first = LEFT + TICKS_FROM_ZERO if broken else LEFT
-        self.low = logarithm(smallest)
-        self.decade = (RIGHT - ROOM - self.start) / (logarithm(largest) - self.low)
-        # The axis does not go beyond 1.
-        if self.place(UNIT) < RIGHT:
-            self.decade = (RIGHT - self.start) / (logarithm(UNIT) - self.low)
-        labelled = self.labelled()
-        self.ticks = sorted(labelled + self.bare([tick.place for tick in labelled]))
-
-    def place(self, value):
-        return self.start + (logarithm(value) - self.low) * self.decade if value else Fraction(LEFT)
-
-    def labelled(self):
-        """The ticks of 0 and the decades, and of 2 and 5 between them, as many as stand apart."""
-        zero = [Tick(self.place(0), "0")] if self.broken else []
-        # Every decade, or else every second one or third one up to 1.
-        for stride in range(1, 10):
-            chosen = zero + self.in_sight(10 ** zeros for zeros in range(9 % stride, 10, stride))
-            if stand_apart(chosen):
-                break
-        for zeros in range(9) if stride == 1 else []:
-            more = sorted(chosen + self.in_sight([2 * 10 ** zeros, 5 * 10 ** zeros]))
-            chosen = more if stand_apart(more) else chosen
-        return chosen
-
-    def bare(self, taken):
-        """The ticks without a label, at places that are not taken."""
-        digits = range(1, 10) if self.decade >= LONG_DECADE else (1, 2, 5)
-        ticks = self.in_sight(digit * 10 ** zeros for zeros in range(10) for digit in digits)
-        return [Tick(tick.place, "") for tick in ticks if tick.place not in taken]
-
-    def in_sight(self, values):
-        """The ticks of the values that stand on the axis."""
-        ticks = [Tick(self.place(value), probability(value).rstrip("0").rstrip("."))
-                 for value in values if value <= UNIT]
-        return [tick for tick in ticks if self.first <= tick.place <= RIGHT]
-
-
-def logarithm(value):
-    return Fraction(PRECISE.log10(value))
-
-
-def stand_apart(ticks):
-    """Whether no label comes near the next one, by an estimate of their widths."""
-    sides = [(tick.place - half, tick.place + half) for tick in ticks
-             for half in [text_width(tick.label, LABEL_SIZE) // 2]]
-    return all(one[1] + LABEL_GAP <= other[0] for one, other in zip(sides, sides[1:]))
-
-
-def text_width(text, size):
-    """An estimate for a wide sans-serif font."""
-    return sum(size * character_width(character) // 100 for character in text)
-
-
-def character_width(character):
-    """In hundredths of the size of the letters."""
-    if columns(character) != 1:
-        return 50 * columns(character)
-    if character in "ijl.,:;'|!":
-        return 38
-    return 110 if character in "mwMW@%…—" else 84 if character.isupper() else 68
 
 
 def title_lines(title):
@@ -206,21 +58,21 @@ def px(hundredths):
     return f"{hundredths // 100}.{hundredths % 100:02d}"
 
 
-def start(name, **attributes):
+def start_tag(name, **attributes):
     words = "".join(f' {key.rstrip("_").replace("_", "-")}="{value}"' for key, value in attributes.items())
     return f"<{name}{words}>"
 
 
-def tag(name, content="", **attributes):
-    return f"{start(name, **attributes)}{content}</{name}>"
+def element(name, content="", **attributes):
+    return f"{start_tag(name, **attributes)}{content}</{name}>"
 
 
 def words_at(x, y, text, **attributes):
-    return tag("text", escape(text), x=px(x), y=px(y), **attributes)
+    return element("text", escape(text), x=px(x), y=px(y), **attributes)
 
 
 def line(x1, y1, x2, y2, **attributes):
-    return tag("line", x1=px(x1), y1=px(y1), x2=px(x2), y2=px(y2), **attributes)
+    return element("line", x1=px(x1), y1=px(y1), x2=px(x2), y2=px(y2), **attributes)
 
 
 def height_of(k, n, top):
@@ -252,12 +104,12 @@ def ends_words(levels):
 def opening(levels, title, scale):
     size = dict(width=WIDTH // 100, height=HEIGHT // 100, viewBox=f"0 0 {WIDTH // 100} {HEIGHT // 100}")
     yield '<?xml version="1.0" encoding="UTF-8"?>'
-    yield start("svg", xmlns="http://www.w3.org/2000/svg", version="1.1", **size, role="img",
-                font_family="sans-serif", font_size=px(LABEL_SIZE), fill=INK)
-    yield tag("title", escape(title))
-    yield tag("desc", f"The probability of the top event as a fuzzy number on a {scale.name} scale. "
-                      f"{tree_words(levels)}; {ends_words(levels)}; {exactness(levels)}.")
-    yield tag("rect", width="100%", height="100%", fill="#ffffff")
+    yield start_tag("svg", xmlns="http://www.w3.org/2000/svg", version="1.1", **size, role="img",
+                    font_family="sans-serif", font_size=px(LABEL_SIZE), fill=INK)
+    yield element("title", escape(title))
+    yield element("desc", f"The probability of the top event as a fuzzy number on a {scale.name} scale. "
+                          f"{tree_words(levels)}; {ends_words(levels)}; {exactness(levels)}.")
+    yield element("rect", width="100%", height="100%", fill="#ffffff")
 
 
 def heading(levels, lines):
@@ -275,7 +127,7 @@ def possibilities(levels, top):
 
 
 def grid(levels, scale, top):
-    yield start("g", class_="grid", stroke=GRID)
+    yield start_tag("g", class_="grid", stroke=GRID)
     for place, label in scale.ticks:
         if label:
             yield line(round(place), top, round(place), BOTTOM)
@@ -292,13 +144,14 @@ def band(levels, scale, top):
             left.append((left_of(level, scale), y))
             right.append((right_of(level, scale), y))
     points = " ".join(f"{px(x)},{px(y)}" for x, y in left + right[::-1])
-    yield tag("polygon", class_="band", points=points, fill=FILL, fill_opacity=CLEAR, stroke=LINE, stroke_width="1.5")
+    yield element("polygon", class_="band", points=points, fill=FILL, fill_opacity=CLEAR, stroke=LINE,
+                  stroke_width="1.5")
     yield bracket(left[-1][0], right[-1][0], top, class_="level-n")
 
 
 def bracket(left, right, y, **attributes):
     path = f"M{px(left)} {px(y - 700)}V{px(y)}H{px(right)}V{px(y - 700)}"
-    return tag("path", d=path, fill="none", stroke=LINE, stroke_width="2", **attributes)
+    return element("path", d=path, fill="none", stroke=LINE, stroke_width="2", **attributes)
 
 
 def is_dotted(levels):
@@ -311,11 +164,11 @@ def dots(levels, scale, top):
     if not is_dotted(levels):
         return
     radius = px(300 if levels.n <= 20 else 200 if levels.n <= MOST_DOTTED_LEVELS else 80)
-    yield start("g", class_="exact", fill=DOT)
+    yield start_tag("g", class_="exact", fill=DOT)
     for level in levels.levels:
         for end, x in (level.lower, left_of(level, scale)), (level.upper, right_of(level, scale)):
             if end.exact:
-                yield tag("circle", cx=px(x), cy=px(height_of(level.k, levels.n, top)), r=radius)
+                yield element("circle", cx=px(x), cy=px(height_of(level.k, levels.n, top)), r=radius)
     yield "</g>"
 
 
@@ -330,7 +183,7 @@ def exactness(levels):
 
 
 def axis_lines(levels, scale, top):
-    yield start("g", class_="axes", stroke=GREY)
+    yield start_tag("g", class_="axes", stroke=GREY)
     yield line(LEFT, top, LEFT, BOTTOM)
     yield line(LEFT, BOTTOM, RIGHT, BOTTOM)
     for place, label in scale.ticks:
@@ -345,12 +198,12 @@ def axis_lines(levels, scale, top):
 
 
 def axis_words(levels, scale, top):
-    yield start("g", class_="probabilities", text_anchor="middle")
+    yield start_tag("g", class_="probabilities", text_anchor="middle")
     for place, label in scale.ticks:
         if label:
             yield words_at(round(place), BOTTOM + 1900, label)
     yield "</g>"
-    yield start("g", class_="possibilities", text_anchor="end")
+    yield start_tag("g", class_="possibilities", text_anchor="end")
     for y, label in possibilities(levels, top):
         yield words_at(LEFT - 1000, y + 420, label)
     yield "</g>"
@@ -363,15 +216,15 @@ def axis_words(levels, scale, top):
 
 def legend(levels):
     first, second = LEGEND_LINES
-    yield start("g", class_="legend", font_size="11", fill=GREY)
-    yield tag("rect", x=px(LEFT), y=px(first - 900), width="18", height="11", fill=FILL, fill_opacity=CLEAR,
-              stroke=LINE)
+    yield start_tag("g", class_="legend", font_size="11", fill=GREY)
+    yield element("rect", x=px(LEFT), y=px(first - 900), width="18", height="11", fill=FILL, fill_opacity=CLEAR,
+                  stroke=LINE)
     yield words_at(LEFT + 2600, first,
                    "between two levels: the interval of the lower one, so that the fuzzy number lies inside")
     yield bracket(LEFT, LEFT + 1800, second - 100)
     yield words_at(LEFT + 2600, second, f"interval of level {levels.n}")
     dot = LEFT + 18500
     if is_dotted(levels):
-        yield tag("circle", cx=px(dot), cy=px(second - 400), r="3", fill=DOT)
+        yield element("circle", cx=px(dot), cy=px(second - 400), r="3", fill=DOT)
     yield words_at(dot + 900 if is_dotted(levels) else dot, second, exactness(levels))
     yield "</g>"

@@ -24,8 +24,7 @@ LINE = re.compile(NUMBER + b" " + NUMBER + b" ([=~]) " + NUMBER + b" ([=~])")
 def read_levels(text):
     """The levels of a level printer's text that begins with 'tree '."""
     (number, events, n), lines = header_and_lines("the level printer", LEVELS_HEADER, text)
-    if number > LARGEST_TREE_NUMBER or not 1 <= events <= MOST_NODES or not 1 <= n <= MOST_LEVELS:
-        raise Stop(3, "the level printer gave a header with a number out of its range")
+    check_ranges("the level printer", number, 1 <= events <= MOST_NODES and 1 <= n <= MOST_LEVELS)
     ends = ends_of_lines("the level printer", lines, range(n, -1, -1))
     return Levels(number, events, n, [Level(k, *both) for k, both in zip(range(n, -1, -1), ends)])
 
@@ -33,8 +32,7 @@ def read_levels(text):
 def read_nodes(text):
     """The nodes of a node printer's text that begins with 'tree '."""
     (number, events, nodes, k, n), lines = header_and_lines("the node printer", NODES_HEADER, text)
-    if number > LARGEST_TREE_NUMBER or not 1 <= events <= nodes <= MOST_NODES or not k <= n <= MOST_LEVELS:
-        raise Stop(3, "the node printer gave a header with a number out of its range")
+    check_ranges("the node printer", number, 1 <= events <= nodes <= MOST_NODES and k <= n <= MOST_LEVELS and n > 0)
     return Nodes(number, k, n, ends_of_lines("the node printer", lines, range(nodes)))
 
 
@@ -42,9 +40,16 @@ def header_and_lines(title, form, text):
     """The header's numbers, and the lines after it."""
     header, *lines = text.split(b"\n")
     matched = form.fullmatch(header)
-    if not matched or lines[-1:] != [b""]:
-        raise Stop(3, f"{title} gave a header of another form, or a line without its end")
+    if not matched:
+        raise Stop(3, f"{title} gave a header of another form")
+    if lines[-1:] != [b""]:
+        raise Stop(3, f"{title} gave a last line without its end")
     return map(int, matched.groups()), lines[:-1]
+
+
+def check_ranges(title, number, others_fit):
+    if number > LARGEST_TREE_NUMBER or not others_fit:
+        raise Stop(3, f"{title} gave a header with a number out of its range")
 
 
 def ends_of_lines(title, lines, numbers):

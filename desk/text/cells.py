@@ -129,7 +129,8 @@ def cell_fault(match):
         return (control.start(), *control_words(control[0]))
     after = NO_SPACE.search(match.string, match.start("after"), end) if quoted else None
     if after:
-        return after.start(), "text stands after the closing quote", "put the whole cell in quotes, and double those within"
+        return (after.start(), "text stands after the closing quote",
+                "put the whole cell in quotes, and double those within")
     return None
 
 

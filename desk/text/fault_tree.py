@@ -251,9 +251,10 @@ def circles(inputs):
                 del places[path.pop()]
                 ahead.pop()
             elif name in places:
-                if name not in told and told.isdisjoint(path[places[name]:]):
-                    told.update(path[places[name]:])
-                    yield path[places[name]:]
+                circle = path[places[name]:]
+                if told.isdisjoint(circle):
+                    told.update(circle)
+                    yield circle
             elif name in inputs and name not in left:
                 places[name] = len(path)
                 path.append(name)

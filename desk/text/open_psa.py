@@ -83,9 +83,9 @@ class Parser:
         try:
             self.expat.Parse(data, True)
         except expat.ExpatError as error:
-            raise Faulty(Fault(file, self.place(error.lineno, error.offset), *self.unread(data, error))) from None
+            raise Faulty(Fault(file, self.place(error.lineno, error.offset), *self.why_stopped(data, error))) from None
 
-    def unread(self, data, error):
+    def why_stopped(self, data, error):
         """Why expat stopped, and what can be done."""
         try:
             data.decode(self.encoding)
@@ -150,10 +150,9 @@ class Model:
             if element.tag in NOTES:
                 continue
             self.take_definition(element)
-            if element.tag not in ("define-gate", "define-basic-event"):
+            # A formula is read when all names are known.
+            if element.tag != "define-gate":
                 waiting.extend(reversed(self.members(element)))
-            elif element.tag == "define-basic-event":
-                self.members(element)
         if not self.trees:
             self.tell(root, "the model has no fault tree", "state it in <define-fault-tree>")
 

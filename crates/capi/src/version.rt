@@ -7,5 +7,5 @@ ghost use Rattle.capi.specs.Version.{version};
 pub extern "C" fn nekbrod_version() -> u32
     ensures { λ r. ⌜ r ≡ version ⌝ }
 {
-    1536
+    1792
 }
