@@ -83,8 +83,9 @@ CELLS = [
     ("pump\u00a01\u3000a", [[("pump 1 a", 1, 1, "A1")]]),
     ("a,  ,b", [[("a", 1, 1, "A1"), ("", 1, 3, "B1"), ("b", 1, 6, "C1")]]),
     ('"  a  b  "', [[("a b", 1, 1, "A1")]]),
-    # The separator: a semicolon only if each row has one out of quotes.
-    ("a;b\nc\n", [[("a;b", 1, 1, "A1")], [("c", 2, 1, "A2")]]),
+    # The separator: a semicolon only if each row of several cells has one out of quotes.
+    ("a;b\nc\n", [[("a", 1, 1, "A1"), ("b", 1, 3, "B1")], [("c", 2, 1, "A2")]]),
+    ("a;b,c\nd,e\n", [[("a;b", 1, 1, "A1"), ("c", 1, 5, "B1")], [("d", 2, 1, "A2"), ("e", 2, 3, "B2")]]),
     ("a;0,5\n \nb;0,1\n", [[("a", 1, 1, "A1"), ("0,5", 1, 3, "B1")], [("b", 3, 1, "A3"), ("0,1", 3, 3, "B3")]]),
     ('"a;b",c\n"d;e",f\n', [[("a;b", 1, 1, "A1"), ("c", 1, 7, "B1")], [("d;e", 2, 1, "A2"), ("f", 2, 7, "B2")]]),
     (";a\nb;c", [[("", 1, 1, "A1"), ("a", 1, 2, "B1")], [("b", 2, 1, "A2"), ("c", 2, 3, "B2")]]),

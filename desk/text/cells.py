@@ -90,9 +90,10 @@ def separator_and_start(file, text):
                            "save the file with commas or semicolons between its cells"))
     if named:
         return named[1], named.end()
-    filled = [row for row in matched_rows(text, 0, ",;") if row[0].group().strip()]
-    semicolons = [any(match["end"] == ";" for match in row) for row in filled]
-    return (";" if filled and all(semicolons) else ","), 0
+    # A row of one cell has neither, and a decimal comma may stand beside semicolons.
+    parted = [row for row in matched_rows(text, 0, ",;") if len(row) > 1]
+    semicolons = [any(match["end"] == ";" for match in row) for row in parted]
+    return (";" if parted and all(semicolons) else ","), 0
 
 
 def matched_rows(text, start, separators):
