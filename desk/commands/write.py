@@ -31,6 +31,8 @@ def write(_, words):
     if len(names) not in (2, 3) or "-o" not in given:
         raise Stop(2, "nekbrod write takes a tree's text, a sheet's spreadsheet, at most one of a book, and -o FOLDER; "
                    "see nekbrod write --help")
+    if names[0].lower().endswith(".csv") and not names[1].lower().endswith(".csv"):
+        raise Stop(2, f"the tree's text comes first, and {names[0]} is a spreadsheet; see nekbrod write --help")
     number = read_number("tree's number", given["--number"], LARGEST_NUMBER) if "--number" in given else None
     order = given.get("--order", "rows")
     if order not in ORDERS:
