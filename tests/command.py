@@ -14,8 +14,9 @@ import time
 
 from command_runs import (
     CAN_BE_SHUT_OUT, CRATES, CUT_SETS, FUEL_LEVELS, HOUR_LEVELS, IS_ROOT, LAST_HOUR, LEVELS, LONGEST, MIRROR, NOBODY,
-    PLAN, PROGRAMS, PUMPS, PYTHON, ROAD, ROAD_LEVELS, ROOT, SHUT_OUT, UNIT, Copy, Run, ended, finish, hold,
-    on_terminal, printed, read, run, skipped, stopped, until, write)
+    PAUSE, PLAN, PROGRAMS, PUMPS, PYTHON, ROAD, ROAD_LEVELS, ROOT, SHUT_OUT, UNIT, Copy, ended, finish, four,
+    fractions, hold, last_of, on_terminal, printed, read, run, sheet, skipped, stopped, table_rows, terms, tree, two,
+    until, window, write)
 
 
 def shipped_examples():
@@ -149,38 +150,6 @@ def file_names(work, copy):
     stopped("a name that is not UTF-8", ran, 2, "there is no tree file \udcff.none$")
 
 
-def two(number):
-    return number.to_bytes(2, "little")
-
-
-def tree(records, links, number=7, count=None, version=1, letters=b"FTF"):
-    """A tree file: records are kind, a and b."""
-    count = len(records) if count is None else count
-    return letters + two(version) + two(number) + two(count) + b"".join(
-        bytes([kind]) + two(a) + two(b) for kind, a, b in records) + b"".join(two(link) for link in links)
-
-
-def sheet(entries, scores=(), number=7, count=None, experts=None, version=1, letters=b"FTS", after=b""):
-    """An opinion sheet: entries are four numbers, or a kind and sixteen bytes."""
-    count = len(entries) if count is None else count
-    experts = len(scores) if experts is None else experts
-    all_scores = bytes(scores) + bytes(16 - len(scores) - len(after)) + after
-    return letters + two(version) + two(number) + two(count) + bytes([experts]) + all_scores + b"".join(entries)
-
-
-def four(*numbers):
-    return b"\0" + b"".join(number.to_bytes(4, "little") for number in numbers)
-
-
-def terms(*of_experts, kind=1, last=0):
-    return bytes([kind, *of_experts]) + bytes(15 - len(of_experts)) + bytes([last])
-
-
-def fractions(denominator, *numerators, kind=2, last=0):
-    numbers = (denominator, *numerators)
-    return bytes([kind]) + b"".join(number.to_bytes(3, "little") for number in numbers) + bytes([last])
-
-
 EVENT = (0, 0, 0)
 ONE = tree([EVENT], [])
 TWO = tree([EVENT, (0, 1, 0), (2, 0, 2)], [0, 1])
@@ -293,17 +262,6 @@ QUESTIONED = [
 ]
 
 
-def table_rows():
-    """The cells of the page of refusals, by number."""
-    rows = {}
-    for line in read(os.path.join(ROOT, "docs/REFUSALS.md")).decode().splitlines():
-        matched = re.match(r"\| ([0-9]+) \|", line)
-        if matched:
-            cells = [cell.strip() for cell in line.replace("`", "").split("|")[2:-1]]
-            rows.setdefault(int(matched.group(1)), []).append(cells)
-    return rows
-
-
 def refused(name, ran, line, sentence, advice):
     """The line of a refusal alone, status 1, the sentence, and the page to read on."""
     hold(f"{name}: status", ran.status == 1, ran)
@@ -382,11 +340,6 @@ def fraction_entries(work, copy):
         n = len(levels) - 1
         text = f"tree 7 events 1 levels {n}\n" + "".join(f"{n - i} {line}\n" for i, line in enumerate(levels))
         printed(name, copy.run(*pair, str(n)), text.encode())
-
-
-def window(event, first, end):
-    """A work window of a book."""
-    return two(event) + first.to_bytes(4, "little") + end.to_bytes(4, "little")
 
 
 # An AND of 0.5 and 0.25; the first is out of service from hour 10 to 20 and, once more, from 12 to 14, the second from
@@ -727,20 +680,6 @@ def other_mirror_programs(outs):
     hold("the mirror program's input",
          read(outs.copy.notes + "/input") == two(len(given[0])) + two(len(given[1])) + b"".join(given), ran)
     as_before(outs)
-
-
-# Stops the command each time that it has stored a file: it notes how many there are, and waits to be told to go on.
-PAUSE = """import os, time
-store, stored = os.fsync, []
-def fsync(file):
-    store(file)
-    stored.append(file)
-    notes = os.environ["NOTES"]
-    open(os.path.join(notes, "stored"), "w").write(str(len(stored)))
-    while not os.path.exists(os.path.join(notes, f"on{len(stored)}")):
-        time.sleep(0.02)
-os.fsync = fsync
-"""
 
 
 class Paused:
@@ -1449,12 +1388,6 @@ def terminals(copy):
 def other_program(copy, commands):
     copy.change(f"#!/bin/sh\n{commands}\n")
     return copy.run(*ROAD, "2")
-
-
-def last_of(ran, lines=1):
-    """The run without what is said while it builds: its last lines alone."""
-    kept = ran.lines[len(ran.lines) - lines:]
-    return Run(ran.status, ran.out, "".join(line + "\n" for line in kept).encode("utf-8", "surrogateescape"))
 
 
 def broken_programs(copy):

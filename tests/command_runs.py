@@ -1,5 +1,5 @@
-# What the tests of the command share: its runs, counted checks, and copies of it, where a stand-in for rt is on the
-# path.
+# What the tests of the command share: its runs, counted checks, files byte by byte, and copies of the command, where a
+# stand-in for rt is on the path.
 import os
 import pty
 import re
@@ -142,6 +142,74 @@ def stopped(name, ran, status, words):
     hold(f"{name}: what is wrong", re.search(words, ran.errors, re.M), ran)
 
 
+def last_of(ran, lines=1):
+    """The run without what is said while it builds: its last lines alone."""
+    kept = ran.lines[len(ran.lines) - lines:]
+    return Run(ran.status, ran.out, "".join(line + "\n" for line in kept).encode("utf-8", "surrogateescape"))
+
+
+def table_rows():
+    """The cells of the page of refusals, by number."""
+    rows = {}
+    for line in read(os.path.join(ROOT, "docs/REFUSALS.md")).decode().splitlines():
+        matched = re.match(r"\| ([0-9]+) \|", line)
+        if matched:
+            cells = [cell.strip() for cell in line.replace("`", "").split("|")[2:-1]]
+            rows.setdefault(int(matched.group(1)), []).append(cells)
+    return rows
+
+
+def two(number):
+    return number.to_bytes(2, "little")
+
+
+def tree(records, links, number=7, count=None, version=1, letters=b"FTF"):
+    """A tree file: records are kind, a and b."""
+    count = len(records) if count is None else count
+    return letters + two(version) + two(number) + two(count) + b"".join(
+        bytes([kind]) + two(a) + two(b) for kind, a, b in records) + b"".join(two(link) for link in links)
+
+
+def sheet(entries, scores=(), number=7, count=None, experts=None, version=1, letters=b"FTS", after=b""):
+    """An opinion sheet: entries are four numbers, or a kind and sixteen bytes."""
+    count = len(entries) if count is None else count
+    experts = len(scores) if experts is None else experts
+    all_scores = bytes(scores) + bytes(16 - len(scores) - len(after)) + after
+    return letters + two(version) + two(number) + two(count) + bytes([experts]) + all_scores + b"".join(entries)
+
+
+def four(*numbers):
+    return b"\0" + b"".join(number.to_bytes(4, "little") for number in numbers)
+
+
+def terms(*of_experts, kind=1, last=0):
+    return bytes([kind, *of_experts]) + bytes(15 - len(of_experts)) + bytes([last])
+
+
+def fractions(denominator, *numerators, kind=2, last=0):
+    numbers = (denominator, *numerators)
+    return bytes([kind]) + b"".join(number.to_bytes(3, "little") for number in numbers) + bytes([last])
+
+
+def window(event, first, end):
+    """A work window of a book."""
+    return two(event) + first.to_bytes(4, "little") + end.to_bytes(4, "little")
+
+
+# Stops the command each time that it has stored a file: it notes how many there are, and waits to be told to go on.
+PAUSE = """import os, time
+store, stored = os.fsync, []
+def fsync(file):
+    store(file)
+    stored.append(file)
+    notes = os.environ["NOTES"]
+    open(os.path.join(notes, "stored"), "w").write(str(len(stored)))
+    while not os.path.exists(os.path.join(notes, f"on{len(stored)}")):
+        time.sleep(0.02)
+os.fsync = fsync
+"""
+
+
 CRATES = """# crates
 theory:
 levels: printer io
@@ -255,10 +323,10 @@ exit {status}
         return ended(self.start(*words, **more))
 
 
-def on_terminal(copy, *words, **more):
-    """A run with a terminal as its standard error, and what the terminal got."""
+def on_terminal(copy, *words, stream="stderr", **more):
+    """A run with a terminal as its standard error, or its standard output, and what the terminal got in its place."""
     ours, theirs = pty.openpty()
-    process = copy.start(*words, stderr=theirs, **more)
+    process = copy.start(*words, **{stream: theirs}, **more)
     os.close(theirs)
     text = b""
     while True:
@@ -271,6 +339,8 @@ def on_terminal(copy, *words, **more):
         text += piece
     os.close(ours)
     ran = ended(process)
+    if stream == "stdout":
+        return Run(ran.status, text.replace(b"\r\n", b"\n"), ran.errors.encode("utf-8", "surrogateescape"))
     return Run(ran.status, ran.out, text)
 
 

@@ -31,15 +31,22 @@ def check(home, words):
         raise Stop(2, f"the book {books[0].name} is judged with its tree: name one tree file beside it")
     with Signals() as signals:
         refused = refusals(home, LEVELS, [LoneFile(*file) for file in trees + sheets], signals)
-        if books and not refused[0]:
+        if books and refused[0]:
+            refused += [f"{book.name}: not judged, since its tree file is refused" for book in books]
+        else:
             refused += refusals(home, HOUR_LEVELS, [LoneBook(*book[1:], *trees[0][1:]) for book in books], signals)
         if len(trees) == len(sheets) == 1 and not any(refused[:2]):
             refused += refusals(home, LEVELS, [Pair(trees[0].name, sheets[0].name, "1")], signals)
-    told = dict(zip(trees + sheets + books, refused))
-    lines = [told[file] or f"{file.name}: {holds(file)}" for file in files if file in told]
-    lines += [sentence for sentence in refused[len(told):] if sentence]
+    told = list(zip(trees + sheets + books, refused))
+    lines = [sentence or f"{file.name}: {holds(file)}" for file, sentence in in_order(files, told)]
+    lines += [sentence for sentence in refused[len(files):] if sentence]
     print_text("".join(line + "\n" for line in lines).encode("utf-8", "surrogateescape"))
     return 1 if any(refused) else 0
+
+
+def in_order(files, told):
+    """What is told of each file, in the order of the files; one that is named twice is told twice."""
+    return sorted(told, key=lambda each: files.index(each[0]))
 
 
 def given(name):

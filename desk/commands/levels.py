@@ -26,11 +26,19 @@ def levels(home, words):
         print_text(text)
         return refused(home, asked, text)
     if as_csv:
-        text = levels_csv(read_levels(text)).encode()
+        text = levels_csv(read_answer(text, asked)).encode()
     elif is_terminal(sys.stdout):
-        text = table_of(read_levels(text), asked).encode()
+        text = table_of(read_answer(text, asked), asked).encode()
     print_text(text)
     return 0
+
+
+def read_answer(text, asked):
+    """The levels that were asked for."""
+    printed = read_levels(text)
+    if (printed.number, printed.n) != (int.from_bytes(asked.tree[5:7], "little"), asked.levels):
+        raise Stop(3, f"{printer_for(asked).title} answered another question")
+    return printed
 
 
 def table_of(printed, asked):
@@ -85,9 +93,13 @@ def options_first(words):
     return given, words
 
 
+def printer_for(asked):
+    return LEVELS if asked.hour is None else HOUR_LEVELS
+
+
 def answer(home, asked):
     """The printer's text for a pair, at an hour or at none."""
-    printer = LEVELS if asked.hour is None else HOUR_LEVELS
+    printer = printer_for(asked)
     with Signals() as signals:
         with up_to_date(printer, home, signals) as program:
             text = printed_text(printer.title, "levels", program, asked, signals)

@@ -25,16 +25,18 @@ def nodes(home, words):
     if not text.startswith(b"tree "):
         print_text(text)
         return refused(home, asked, text)
-    printed = read_nodes(text)
-    shown = shown_nodes(asked, printed.ends)
+    printed, tree = read_nodes(text), held_tree(asked.tree)
+    if (printed.number, printed.k, printed.n, len(printed.ends)) != (tree.number, *asked.level, len(tree.nodes)):
+        raise Stop(3, f"{NODES.title} answered another question")
+    shown = shown_nodes(asked, tree, printed.ends)
     title = f"tree {printed.number}, level {printed.k} of {printed.n}"
     print_text((nodes_csv(shown) if "--csv" in given else nodes_table(shown, title)).encode())
     return 0
 
 
-def shown_nodes(asked, ends):
+def shown_nodes(asked, tree, ends):
     """Each node with its number, its name where it has one, its kind and its ends."""
     names = names_for("tree", asked.tree_name, asked.tree)
-    kinds = [KIND_WORDS[node.kind] for node in held_tree(asked.tree).nodes]
+    kinds = [KIND_WORDS[node.kind] for node in tree.nodes]
     named = names.all_nodes() if names else [""] * len(kinds)
     return [Shown(i, name, kind, *both) for i, (name, kind, both) in enumerate(zip(named, kinds, ends))]

@@ -1,11 +1,10 @@
 # The top event's fuzzy number as a picture.
-from desk.commands.levels import HOUR_OPTIONS, answer, pair_at, title_of
 from desk.child import Signals
+from desk.commands.levels import HOUR_OPTIONS, answer, pair_at, read_answer, title_of
 from desk.commands.told import refused
 from desk.new_files import check_new, write_all
 from desk.screen import Stop, print_text
 from desk.shown.plot import picture
-from desk.shown.printed import read_levels
 from desk.words import options_apart
 
 
@@ -21,7 +20,7 @@ def plot(home, words):
     if not text.startswith(b"tree "):
         print_text(text)
         return refused(home, asked, text)
-    levels = read_levels(text)
+    levels = read_answer(text, asked)
     drawn = picture(levels, title_of(asked)).encode()
     with Signals() as signals:
         line = f"wrote {name}: the picture of tree {levels.number}, {levels.n} levels"

@@ -1,15 +1,13 @@
 # The cells of a CSV file, as spreadsheets export it, each with its place; and rows of text as such a file.
-import bisect
-import codecs
 import collections
 import re
 
-from desk.text.faults import Fault, Faulty, Place
+from desk.text.faults import Fault, Faulty
+from desk.text.lines import LINE_END, Lines, decoded
 
 # The text has no spaces at its ends, and one where several stand; the place is where it begins.
 Cell = collections.namedtuple("Cell", "text place")
 
-LINE_END = "\r\n|\r|\n"
 # Any kind of space is one, the no-break spaces of spreadsheets too.
 NO_SPACE = re.compile(r"\S")
 # Control characters, ends of lines and paragraphs, and a byte-order mark that does not begin the file.
@@ -21,7 +19,7 @@ MOST_SHOWN = 60
 
 def read_cells(file, data):
     """The rows that are not empty, each a list of cells; or Faulty, with the first fault of each row."""
-    text = decoded(file, data)
+    text = decoded(file, data, SAVE_AS_UTF_8)
     lines = Lines(text)
     separator, start = separator_and_start(file, text)
     rows, faults = [], []
@@ -55,30 +53,6 @@ def read_rows(rows, read_row):
         except Faulty as faulty:
             faults += faulty.faults
     return read, faults
-
-
-def decoded(file, data):
-    if data.startswith((codecs.BOM_UTF16_LE, codecs.BOM_UTF16_BE)):
-        raise Faulty(Fault(file, Place(1, 1, None), "the file is in UTF-16", SAVE_AS_UTF_8))
-    if data.startswith(codecs.BOM_UTF8):
-        data = data[len(codecs.BOM_UTF8):]
-    try:
-        return data.decode("utf-8")
-    except UnicodeDecodeError as error:
-        before = data[:error.start].decode("utf-8")
-        found = f"the byte {data[error.start]:02X} is not UTF-8"
-        raise Faulty(Fault(file, Lines(before).place(len(before)), found, SAVE_AS_UTF_8)) from None
-
-
-class Lines:
-    """Where each line of a text begins, those within quotes too."""
-
-    def __init__(self, text):
-        self.starts = [0] + [match.end() for match in re.finditer(LINE_END, text)]
-
-    def place(self, at, cell=None):
-        line = bisect.bisect_right(self.starts, at)
-        return Place(line, at - self.starts[line - 1] + 1, cell)
 
 
 def separator_and_start(file, text):

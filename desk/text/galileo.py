@@ -1,12 +1,12 @@
 # A fault tree as Galileo text, as Storm and DFTCalc read it: statements of a top, of gates over their inputs and,
 # beyond their grammar, of basic events at their place in the order.
-import bisect
 import collections
 import re
 
 from desk.text.fault_tree import (AND, EVENT, LARGEST_NUMBER, OR, Mention, Statement, TreeText, by_place,
                              character_in_words, in_single_spaces, place_in_words, tree_number, unfit_at)
 from desk.text.faults import Fault, Faulty, Place
+from desk.text.lines import Lines
 
 PIECE = re.compile(r"""(?P<space>\s+)
     | (?P<line_comment>//[^\r\n]*)
@@ -16,7 +16,6 @@ PIECE = re.compile(r"""(?P<space>\s+)
     | (?P<open_name>"[^\r\n]*)
     | (?P<end>;)
     | (?P<word>(?:(?!//|/\*)[^\s";])+)""", re.VERBOSE | re.DOTALL)
-LINE_END = re.compile("\r\n|\r|\n")
 NUMBER_COMMENT = re.compile(r"nekbrod:\s*tree\s+number\s+([0-9]+)", re.IGNORECASE)
 FIGURE = re.compile(r"(\w+)=")
 NAME_CHARACTER, KIND_CHARACTER = re.compile(r"[\w.-]"), re.compile(r"[\w.<>=-]")
@@ -55,10 +54,9 @@ def galileo_text(tree):
 
 def pieces(text):
     """The names, words, statement ends and comments of a text, each with its kind and place."""
-    lines = [0, *(end.end() for end in LINE_END.finditer(text))]
+    lines = Lines(text)
     for piece in PIECE.finditer(text):
-        line = bisect.bisect_right(lines, piece.start())
-        yield piece.lastgroup, piece.group(piece.lastgroup), Place(line, piece.start() - lines[line - 1] + 1, None)
+        yield piece.lastgroup, piece.group(piece.lastgroup), lines.place(piece.start())
 
 
 def keyword(token):

@@ -5,6 +5,8 @@ import os
 import re
 import zlib
 
+from desk.text.fault_tree import in_single_spaces, unfit_at
+
 NAMES_FILE = "names.txt"
 FIRST_LINE = "nekbrod names"
 WORDS = ("tree", "sheet", "book")
@@ -30,7 +32,9 @@ class Names(collections.namedtuple("Names", "sums nodes experts")):
             return False
         if what == "tree":
             return [KINDS.get(data[at]) for at in records(data)] == [node.kind for node in self.nodes]
-        return what == "book" or (number_at(data, 7), data[9]) == (len(self.events()), len(self.experts))
+        if what == "book":
+            return all(number_at(data, at) < len(self.events()) for at in range(0, len(data), 10))
+        return (number_at(data, 7), data[9]) == (len(self.events()), len(self.experts))
 
     def text(self):
         lines = [FIRST_LINE] + [f"{word} {value}" for word, value in self.sums.items()]
@@ -73,7 +77,14 @@ def parse_names(text):
             names.experts.append(rest)
         else:
             return None
-    return names if first == FIRST_LINE and names.nodes else None
+    right = first == FIRST_LINE and names.nodes and are_names(names.all_nodes()) and are_names(names.experts)
+    return names if right else None
+
+
+def are_names(texts):
+    """Whether a text could give these names, each to one."""
+    return len(set(texts)) == len(texts) and all(
+        unfit_at(text) is None and in_single_spaces(text) == text for text in texts)
 
 
 def names_beside(what, name, data):

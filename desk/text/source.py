@@ -1,9 +1,10 @@
 # Text files as they are read: their bytes, and the fault tree of either format.
 import os
+import re
 
 from desk.screen import Stop
-from desk.text.faults import Fault, Faulty, Place
 from desk.text.galileo import read_galileo
+from desk.text.lines import decoded
 from desk.text.open_psa import read_open_psa
 
 # A text of the largest tree or sheet, with long names, is far shorter.
@@ -30,13 +31,6 @@ def read_source(what, name):
 
 def read_tree_text(file, data):
     """The statements of a fault tree: Open-PSA where the first sign is <, else Galileo."""
-    if data.lstrip(b"\xef\xbb\xbf \t\r\n").startswith(b"<"):
+    if re.match(b"(\xef\xbb\xbf)?[ \t\r\n]*<|\xff\xfe<\0|\xfe\xff\0<", data):
         return read_open_psa(file, data)
-    try:
-        text = data.decode("utf-8-sig")
-    except UnicodeDecodeError as error:
-        before = data[:error.start].decode("utf-8-sig")
-        line, column = before.count("\n") + 1, len(before) - before.rfind("\n")
-        found = f"the byte {data[error.start]:02x}, which is not UTF-8"
-        raise Faulty(Fault(file, Place(line, column, ""), found, SAVE_AS)) from None
-    return read_galileo(file, text)
+    return read_galileo(file, decoded(file, data, SAVE_AS))
