@@ -138,19 +138,19 @@ def read_number(what, word, largest):
     return int(digits)
 
 
-def read_file(what, name):
-    """The bytes of a file of at most 65,535."""
+def read_file(what, name, longest=LARGEST):
+    """The bytes of a file of at most so many, 65,535 where the program's input is to say its length."""
     if not os.path.exists(name):
         raise Stop(2, f"there is no {what} {name}")
     if not os.path.isfile(name):
         raise Stop(2, f"the {what} {name} is not a file")
     try:
         with open(name, "rb") as file:
-            data = file.read(LARGEST + 1)
+            data = file.read(longest + 1)
     except OSError as error:
         raise Stop(2, f"the {what} {name} cannot be read: {error.strerror}") from None
-    if len(data) > LARGEST:
-        raise Stop(2, f"the {what} {name} is longer than {LARGEST} bytes")
+    if len(data) > longest:
+        raise Stop(2, f"the {what} {name} is longer than {longest} bytes")
     return data
 
 

@@ -111,7 +111,8 @@ nekbrod show FILE [--open-psa]
 
 A tree file as Galileo text, or as Open-PSA MEF; an opinion sheet or a book of work windows as CSV. The names are those
 of names.txt beside the file, where they are for it; else basic events are e0, e1, .., gates g with their node's number,
-and experts E1, E2, .. . Writing the texts of a pair again gives the same bytes.
+and experts E1, E2, .. . Writing the Galileo text and the CSV of a pair again gives the same bytes. Open-PSA has the
+same tree; names that are no identifiers stand in its labels.
 """
 
 CHECK = """\

@@ -9,6 +9,8 @@ import subprocess
 import sys
 import time
 
+import counted
+
 ROOT = os.path.dirname(os.path.dirname(os.path.realpath(__file__)))
 LEVELS = os.path.join(ROOT, "target/bin/levels")
 HOUR_LEVELS = os.path.join(ROOT, "target/bin/hour_levels")
@@ -27,7 +29,6 @@ NOBODY = 65534
 # A run that takes longer than this hangs.
 LONGEST = 30
 
-passed = failed = 0
 skipped = []
 
 
@@ -57,17 +58,11 @@ class Run:
 
 def hold(name, right, run=None):
     """Counts a check, and shows the run where the check fails."""
-    global passed, failed
-    if right:
-        passed += 1
-        return
-    failed += 1
-    print(f"FAILED: {name}" + (f"; status {run.status}" if run else ""))
-    if run:
-        for line in run.out.decode("latin-1").splitlines()[:5]:
-            print(f"  out: {line}")
-        for line in run.lines[:8]:
-            print(f"  err: {line}")
+    shown = []
+    if run and not right:
+        shown = [f"status {run.status}", *(f"out: {line}" for line in run.out.decode("latin-1").splitlines()[:5]),
+                 *(f"err: {line}" for line in run.lines[:8])]
+    counted.hold(name, right, *shown)
 
 
 def usual_signals():
@@ -199,6 +194,8 @@ def window(event, first, end):
 # Stops the command each time that it has stored a file: it notes how many there are, and waits to be told to go on.
 PAUSE = """import os, time
 store, stored = os.fsync, []
+
+
 def fsync(file):
     store(file)
     stored.append(file)
@@ -348,5 +345,4 @@ def finish(name):
     """The last lines, and the status of the test."""
     for text in skipped:
         print(f"skipped: {text}")
-    print(f"{name}: {passed} checks passed, {failed} failed")
-    return 0 if failed == 0 else 1
+    return counted.finish(name)

@@ -1,4 +1,4 @@
-#!/usr/bin/env python3
+#!/usr/bin/env -S python3 -B
 """Holds the cut set printer to reference/: for each tree both print the same lines, in whatever order.
 
     tests/cut_sets.py [SEED [COUNT]]      a seed from the clock and 2,000 generated trees, unless said
@@ -13,6 +13,8 @@ import sys
 import time
 from struct import pack
 
+from counted import finish, hold
+
 ROOT = os.path.dirname(os.path.dirname(os.path.realpath(__file__)))
 PROGRAM = os.path.join(ROOT, "target/bin/cut_set_lines")
 REFERENCE = os.path.join(ROOT, "reference/target/release/reference")
@@ -20,19 +22,6 @@ EVENT, AND, OR = 0, 1, 2
 MOST_LISTED = 100000
 # A run that takes longer than this hangs.
 LONGEST = 60
-
-passed = failed = 0
-
-
-def hold(name, right, *shown):
-    global passed, failed
-    if right:
-        passed += 1
-        return
-    failed += 1
-    print(f"FAILED: {name}")
-    for text in shown:
-        print(f"  {text[:300]!r}")
 
 
 def run(words, data, **more):
@@ -180,8 +169,7 @@ def main(words):
     edges()
     outputs()
     generated(seed, count)
-    print(f"cut_sets.py: {passed} checks passed, {failed} failed")
-    return 0 if failed == 0 else 1
+    return finish("cut_sets.py")
 
 
 sys.exit(main(sys.argv[1:]))

@@ -1,4 +1,4 @@
-#!/usr/bin/env python3
+#!/usr/bin/env -S python3 -B
 """Runs every command of docs/GUIDE.md, with the texts that it says to save, and compares what is printed with the page,
 and the picture with the one that the page shows.
 

@@ -1,4 +1,4 @@
-#!/usr/bin/env python3
+#!/usr/bin/env -S python3 -B
 """Tries the reader of the level printer's text, the tables and CSV, and the picture.
 
     tests/pictures.py [SEED [COUNT]]      a seed from the clock and 2,000 broken texts, unless said
@@ -15,6 +15,8 @@ import sys
 import time
 import xml.etree.ElementTree as ElementTree
 
+from counted import equal, finish, hold
+
 ROOT = os.path.dirname(os.path.dirname(os.path.realpath(__file__)))
 sys.path.insert(0, ROOT)
 sys.dont_write_bytecode = True
@@ -28,23 +30,6 @@ UNIT = 1000000000
 LEFT, RIGHT, TOP, BOTTOM = 76.0, 670.0, 94.0, 372.0
 SVG = "{http://www.w3.org/2000/svg}"
 MARKS_LINE = "= is an exact end; ~ is an end rounded outward, to the safe side of the exact one\n"
-
-passed = failed = 0
-
-
-def hold(name, right, *shown):
-    global passed, failed
-    if right:
-        passed += 1
-        return
-    failed += 1
-    print(f"FAILED: {name}")
-    for text in shown:
-        print(f"  {str(text)[:600]}")
-
-
-def equal(name, found, due):
-    hold(name, found == due, f"found {found!r}", f"due   {due!r}")
 
 
 def some_levels(*intervals, exact=(), number=3, events=7):
@@ -592,8 +577,7 @@ def main(words):
     random_pictures(chance, count // 4)
     titles()
     same_bytes()
-    print(f"pictures.py: {passed} checks passed, {failed} failed")
-    return 0 if failed == 0 else 1
+    return finish("pictures.py")
 
 
 if __name__ == "__main__":

@@ -1,4 +1,4 @@
-#!/usr/bin/env python3
+#!/usr/bin/env -S python3 -B
 """Holds the level printer to SCRAM, an Open-PSA tool of others, where it is on the path.
 
     tests/scram.py [SEED [COUNT]]      a seed from the clock and 20 random trees, unless said
@@ -18,13 +18,15 @@ import time
 from decimal import Decimal
 from xml.etree import ElementTree
 
+from counted import finish, hold
+
 ROOT = os.path.dirname(os.path.dirname(os.path.realpath(__file__)))
 sys.path.insert(0, ROOT)
 sys.dont_write_bytecode = True
 
 from desk.commands.write import made_of  # noqa: E402
-from desk.text.fault_tree import held_tree  # noqa: E402
-from desk.text.names import parse_names  # noqa: E402
+from desk.text.fault_tree import AND, EVENT, OR, FaultTree, Node  # noqa: E402
+from desk.text.faults import Faulty  # noqa: E402
 from desk.text.open_psa import open_psa_text  # noqa: E402
 
 LEVELS = os.path.join(ROOT, "target/bin/levels")
@@ -34,24 +36,18 @@ DIGITS = 6
 # A run that takes longer than this hangs.
 LONGEST = 60
 
+KINDS = {"and": AND, "or": OR}
+
+# Of each example its text, and by hand its gates, the top first, each with its kind and its inputs, and its figures.
 EXAMPLES = {
-    "road_trip": ("tree.dft", {"phone": "0.8", "engine": "0.1", "battery": "0.4"}),
-    "container_seal": ("tree.xml", {"e1": "0.1", "e2": "0.00001", "e3": "0.001", "e4": "0.001", "e5": "0.001",
-                                    "e6": "0.001"}),
+    "road_trip": ("tree.dft", [("trip", "and", ["phone", "car"]), ("car", "or", ["engine", "battery"])],
+                  {"phone": "0.8", "engine": "0.1", "battery": "0.4"}),
+    "container_seal": ("tree.xml", [
+        ("container", "or", ["e2", "all_seals"]),
+        ("all_seals", "and", ["e1", "first_compression_seal", "second_compression_seal"]),
+        ("first_compression_seal", "or", ["e3", "e4"]), ("second_compression_seal", "or", ["e5", "e6"])],
+        {"e1": "0.1", "e2": "0.00001", "e3": "0.001", "e4": "0.001", "e5": "0.001", "e6": "0.001"}),
 }
-
-passed = failed = 0
-
-
-def hold(name, right, *shown):
-    global passed, failed
-    if right:
-        passed += 1
-        return
-    failed += 1
-    print(f"FAILED: {name}")
-    for text in shown:
-        print(f"  {str(text)[:500]}")
 
 
 def write(folder, name, text):
@@ -86,15 +82,23 @@ def scram_value(folder, model):
     return Decimal(top.get("probability")), analysis.get("approximation")
 
 
-def compare(name, folder, tree_text, probabilities):
+def fault_tree(gates, events):
+    """The tree of these gates, the top first, as the command's modules hold it."""
+    names = [*events, *(name for name, _, _ in reversed(gates))]
+    nodes = [Node(event, EVENT, ()) for event in events]
+    nodes += [Node(name, KINDS[kind], tuple(map(names.index, inputs))) for name, kind, inputs in reversed(gates)]
+    return FaultTree(1, tuple(nodes))
+
+
+def compare(name, folder, tree_text, gates, probabilities):
     """SCRAM's value within the interval, widened by half a unit of SCRAM's last digit."""
     sheet = "".join(f"{event},{figure}\n" for event, figure in probabilities.items())
     try:
         files, _ = made_of((tree_text, write(folder, "sheet.csv", sheet)), None, True)
         lower, upper = printed_interval(files)
-        tree = held_tree(files["tree.ftf"], parse_names(files["names.txt"].decode()).all_nodes())
-        value, approximation = scram_value(folder, open_psa_text(tree, probabilities))
-    except (ValueError, ElementTree.ParseError, subprocess.TimeoutExpired) as error:
+        model = open_psa_text(fault_tree(gates, list(probabilities)), probabilities)
+        value, approximation = scram_value(folder, model)
+    except (Faulty, ValueError, ElementTree.ParseError, subprocess.TimeoutExpired) as error:
         hold(f"{name}: an answer of both", False, error)
         return
     half = Decimal(5).scaleb(value.adjusted() - DIGITS) if value else Decimal(0)
@@ -139,15 +143,15 @@ def random_tree(draw, name, folder):
     """Names that SCRAM takes, or such as it does not; Galileo or Open-PSA."""
     word = draw.choice(["e", "event "])
     events = [f"{word}{i}" for i in range(draw.choice([1, 2, 3, 5, 8, 13]))]
-    text = draw.choice([as_galileo, as_open_psa])(any_tree(draw, events))
-    compare(name, folder, write(folder, "tree.txt", text), {event: any_probability(draw) for event in events})
+    gates = any_tree(draw, events)
+    text = draw.choice([as_galileo, as_open_psa])(gates)
+    compare(name, folder, write(folder, "tree.txt", text), gates, {event: any_probability(draw) for event in events})
 
 
 def main(words):
     if shutil.which("scram") is None:
         print("skipped: scram is not installed")
-        print("scram.py: 0 checks passed, 0 failed")
-        return 0
+        return finish("scram.py")
     if not os.access(LEVELS, os.X_OK):
         print(f"{LEVELS} is not built: rt check levels")
         return 2
@@ -155,12 +159,11 @@ def main(words):
     count = int(words[1]) if words[1:] else 20
     print(f"the level printer held to SCRAM, seed {seed}")
     with tempfile.TemporaryDirectory() as folder:
-        for name, (tree_text, probabilities) in EXAMPLES.items():
-            compare(name, folder, os.path.join(ROOT, "examples", name, tree_text), probabilities)
+        for name, (tree_text, *given) in EXAMPLES.items():
+            compare(name, folder, os.path.join(ROOT, "examples", name, tree_text), *given)
         for index in range(count):
             random_tree(random.Random(f"{seed} {index}"), f"seed {seed}, tree {index}", folder)
-    print(f"scram.py: {passed} checks passed, {failed} failed")
-    return 0 if failed == 0 else 1
+    return finish("scram.py")
 
 
 sys.exit(main(sys.argv[1:]))

@@ -1,4 +1,4 @@
-#!/usr/bin/env python3
+#!/usr/bin/env -S python3 -B
 """Tries the sheets and the books that are spreadsheets: desk/cells.py, figures.py, sheet.py and book.py.
 
     tests/sheet_text.py [SEED [COUNT]]      a seed from the clock and 2,000 rounds of each kind, unless said
@@ -15,6 +15,8 @@ import sys
 import time
 import unicodedata
 
+from counted import finish, hold
+
 ROOT = os.path.dirname(os.path.dirname(os.path.realpath(__file__)))
 sys.path.insert(0, ROOT)
 
@@ -27,19 +29,6 @@ from desk.text.sheet import Entry, Expert, held_sheet, read_sheet, sheet_data, s
 NUMBERS, OPINIONS, FRACTIONS = 0, 1, 2
 UNIT = 1000000000
 BOM = b"\xef\xbb\xbf"
-
-passed = failed = 0
-
-
-def hold(name, right, *shown):
-    global passed, failed
-    if right:
-        passed += 1
-        return
-    failed += 1
-    print(f"FAILED: {name}")
-    for text in shown:
-        print(f"  {str(text)[:600]}")
 
 
 def as_bytes(text):
@@ -723,8 +712,7 @@ def main(words):
         part()
     for part in random_sheets, random_books, garbage:
         part(seed, count)
-    print(f"sheet_text.py: {passed} checks passed, {failed} failed")
-    return 0 if failed == 0 else 1
+    return finish("sheet_text.py")
 
 
 sys.exit(main(sys.argv[1:]))

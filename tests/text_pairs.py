@@ -1,4 +1,4 @@
-#!/usr/bin/env python3
+#!/usr/bin/env -S python3 -B
 """Random trees and sheets as people write them, from the text to the proved answer.
 
     tests/text_pairs.py [SEED [COUNT]]      a seed from the clock and 1,000 pairs, unless said
@@ -17,6 +17,8 @@ import tempfile
 import time
 from fractions import Fraction
 from xml.sax.saxutils import quoteattr
+
+from counted import finish, hold
 
 ROOT = os.path.dirname(os.path.dirname(os.path.realpath(__file__)))
 sys.path.insert(0, ROOT)
@@ -38,19 +40,6 @@ TERMS = {"Very Low": (0, 4, 4, 8), "Low": (7, 13, 13, 19), "Fairly Low": (17, 27
          "": (0, 0, 100, 100)}
 LETTERS = {"Very Low": "VL", "Low": "L", "Fairly Low": "FL", "Medium": "M", "Fairly High": "FH", "High": "H",
            "Very High": "VH"}
-
-passed = failed = 0
-
-
-def hold(name, right, *shown):
-    global passed, failed
-    if right:
-        passed += 1
-        return
-    failed += 1
-    print(f"FAILED: {name}")
-    for text in shown:
-        print(f"  {str(text)[:500]}")
 
 
 class Gate:
@@ -282,8 +271,7 @@ def main(words):
     for index in range(count):
         with tempfile.TemporaryDirectory() as folder:
             one_pair(random.Random(f"{seed} {index}"), f"seed {seed}, pair {index}", folder, index % 100 == 0)
-    print(f"text_pairs.py: {count} pairs, {passed} checks passed, {failed} failed")
-    return 0 if failed == 0 else 1
+    return finish(f"text_pairs.py, {count} pairs")
 
 
 sys.exit(main(sys.argv[1:]))

@@ -1,4 +1,4 @@
-#!/usr/bin/env python3
+#!/usr/bin/env -S python3 -B
 """Tries fault trees as text: Galileo and Open-PSA, read and written, and each fault by a text that has it.
 
     tests/tree_text.py [SEED [ROUNDS]]      a seed from the clock and 2,000 rounds, unless said
@@ -19,6 +19,8 @@ import time
 import unicodedata
 from struct import pack, unpack_from
 
+from counted import finish, hold
+
 ROOT = os.path.dirname(os.path.dirname(os.path.realpath(__file__)))
 sys.path.insert(0, ROOT)
 
@@ -26,19 +28,6 @@ from desk.text.fault_tree import AND, EVENT, OR, FaultTree, Mention, Node, arran
 from desk.text.faults import Faulty, Place
 from desk.text.galileo import galileo_text, read_galileo
 from desk.text.open_psa import open_psa_text, read_open_psa
-
-passed = failed = 0
-
-
-def hold(name, right, *shown):
-    global passed, failed
-    if right:
-        passed += 1
-        return
-    failed += 1
-    print(f"FAILED: {name}")
-    for text in shown:
-        print(f"  {text!r}"[:600])
 
 
 def galileo(text, rows=()):
@@ -779,8 +768,7 @@ def main(words):
     round_trips(random.Random(seed), rounds // 4)
     garbage(random.Random(seed), rounds)
     judged_by_scram(random.Random(seed), 20)
-    print(f"tree_text.py: {passed} checks passed, {failed} failed")
-    return 0 if failed == 0 else 1
+    return finish("tree_text.py")
 
 
 sys.exit(main(sys.argv[1:]))

@@ -1,4 +1,4 @@
-#!/usr/bin/env python3
+#!/usr/bin/env -S python3 -B
 # The command's words for texts, names and pictures: write, show, check, nodes, plot, levels --csv, and the names of
 # cut-sets. What is due is worked out by hand, or stands in the shipped examples.
 # All but the shipped examples run in a copy, where a stand-in for rt is on the path.
@@ -31,7 +31,7 @@ from desk.text.faults import Faulty  # noqa: E402
 
 COMMAND = os.path.join(ROOT, "nekbrod")
 SIGNALS = (signal.SIGINT, signal.SIGTERM, signal.SIGHUP, signal.SIGQUIT)
-LONGEST_TEXT = 1 << 24
+LONGEST_TEXT = 1 << 20
 GARBLED = 2000
 
 # Of each example its texts, and by hand what each of its files holds.
@@ -535,12 +535,13 @@ def faults(writing):
         for file, text in zip(names, texts):
             writing.text(file, text)
         writing.refused(name, writing.new(*names[:len(texts)]), 1, *sentences)
-    for count in (1, 19, 20, 22, 45):
+    for count in (1, 19, 20, 21, 22, 45):
         writing.text("tree.dft", GOOD_TREE)
         writing.text("sheet.csv", "".join(f"e{i}\n" for i in range(count)))
         lines = [f'sheet.csv, line {i + 1}, column 1 (cell A{i + 1}): the event "e{i}" has nothing but its name; '
                  f"{FIGURES_OF}" for i in range(min(count, 20))]
-        lines += [f"and {count - 20} faults more"] if count > 20 else []
+        if count > 20:
+            lines.append("and 1 fault more" if count == 21 else f"and {count - 20} faults more")
         writing.refused(f"{count} faults", writing.new("tree.dft", "sheet.csv"), 1, *lines)
 
 
@@ -842,10 +843,13 @@ def damaged_names(writing):
         line = why.format(names=names, file=path) + NUMBERS_STAND
         said(f"names {name}", writing.copy.run("show", path), 0, line, out=ROAD_NUMBERED)
     os.remove(names)
+    line = f"{names} is not a file{NUMBERS_STAND}"
     os.mkdir(names)
-    line = f"{names} cannot be read (Is a directory){NUMBERS_STAND}"
     said("a folder of names", writing.copy.run("show", path), 0, line, out=ROAD_NUMBERED)
     os.rmdir(names)
+    os.mkfifo(names)
+    said("a pipe of names", writing.copy.run("show", path), 0, line, out=ROAD_NUMBERED)
+    os.remove(names)
     os.symlink("none", names)
     said("a link to no names", writing.copy.run("show", path), 0, out=ROAD_NUMBERED)
     os.remove(names)

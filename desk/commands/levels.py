@@ -16,7 +16,7 @@ HOUR_OPTIONS = {"--windows": "BOOK", "--hour": "H"}
 OPTIONS = {**HOUR_OPTIONS, "--csv": None}
 
 SEE = "see nekbrod --help"
-MISPLACED = f"--windows BOOK and --hour H stand right after the word levels; {SEE}"
+MISPLACED = f"the options --csv, --windows BOOK and --hour H stand right after the word levels; {SEE}"
 
 
 def levels(home, words):

@@ -4,6 +4,7 @@ from desk.commands.levels import HOUR_OPTIONS, answer, pair_at, read_answer, tit
 from desk.commands.told import refused
 from desk.new_files import check_new, write_all
 from desk.screen import Stop, print_text
+from desk.shown.holdings import counted
 from desk.shown.plot import picture
 from desk.words import options_apart
 
@@ -23,5 +24,5 @@ def plot(home, words):
     levels = read_answer(text, asked)
     drawn = picture(levels, title_of(asked)).encode()
     with Signals() as signals:
-        line = f"wrote {name}: the picture of tree {levels.number}, {levels.n} levels"
+        line = f"wrote {name}: the picture of tree {levels.number}, {counted(levels.n, 'level')}"
         return write_all([("picture", name, drawn)], [line], signals)

@@ -1,6 +1,7 @@
 # What the words of the command share: a refusal and faults in words, and the names beside a file.
 from desk.refusal import explain
 from desk.screen import say
+from desk.shown.holdings import counted
 from desk.text.names import names_beside
 
 # Of more faults than these the number is told.
@@ -19,7 +20,7 @@ def faulty(faults):
     for fault in faults[:MOST_FAULTS]:
         say(fault.sentence())
     if len(faults) > MOST_FAULTS:
-        say(f"and {len(faults) - MOST_FAULTS} faults more")
+        say(f"and {counted(len(faults) - MOST_FAULTS, 'fault')} more")
     return 1
 
 

@@ -1,7 +1,7 @@
 # A tree's text and its sheet's spreadsheet, and a book's where there is one, as files for the monitor, with names.
 import os
 
-from desk.asked import read_number
+from desk.asked import read_file, read_number
 from desk.child import Signals
 from desk.commands.told import faulty
 from desk.new_files import check_folder, write_all
@@ -13,7 +13,7 @@ from desk.text.faults import Faulty
 from desk.text.names import NAMES_FILE, names_of
 from desk.text.pair import joined, unknown_events
 from desk.text.sheet import read_sheet, sheet_data
-from desk.text.source import read_source, read_tree_text
+from desk.text.source import read_tree_text
 from desk.words import options_apart
 
 OPTIONS = {"-o": "FOLDER", "--number": "N", "--order": "rows or mention"}
@@ -21,6 +21,9 @@ ORDERS = {"rows": True, "mention": False}
 
 # The files that are written, by their words in the names file.
 FILES = {"tree": ("tree file", "tree.ftf"), "sheet": ("opinion sheet", "sheet.fts"), "book": ("book", "windows.ftw")}
+
+# A text of the largest tree or sheet is far shorter, unless its names are very long.
+LONGEST_TEXT = 1 << 20
 
 # The tree's number where nothing says another.
 USUAL_NUMBER = 1
@@ -58,7 +61,7 @@ def made_of(names, number, by_rows):
     """The bytes of each file by its name in the folder, and what each holds."""
     readers = (read_tree_text, "tree's text"), (read_sheet, "spreadsheet"), (read_book, "book's spreadsheet")
     tree_text, sheet_text, *books = read_all([
-        (reader, name, read_source(what, name)) for (reader, what), name in zip(readers, names)])
+        (reader, name, read_file(what, name, LONGEST_TEXT)) for (reader, what), name in zip(readers, names)])
     if number is None:
         number = USUAL_NUMBER if tree_text.number is None else tree_text.number
     tree, entries = joined(tree_text, sheet_text, number, by_rows)

@@ -90,6 +90,8 @@ def are_names(texts):
 def names_beside(what, name, data):
     """The names for a file, a tree, a sheet or a book, or None; and why there are none, where a names file is there."""
     path = os.path.join(os.path.dirname(name), NAMES_FILE)
+    if os.path.exists(path) and not os.path.isfile(path):
+        return None, f"{path} is not a file"
     try:
         with open(path, encoding="utf-8", newline="\n") as file:
             names = parse_names(file.read(LONGEST))
