@@ -1,12 +1,14 @@
 #!/bin/sh
-# The level printer and the hour printer by themselves: inputs at the edges of their formats, each answered as said here
-# and as by reference/.
+# The level printer, the hour printer and the node printer by themselves: inputs at the edges of their formats, each
+# answered as said here and as by reference/.
 # shellcheck source-path=SCRIPTDIR
 . "$(dirname "$0")/checks.sh"
 
 in=$work/input
 hour_levels=$root/target/bin/hour_levels
 needs "$hour_levels" "rt check hour_levels"
+node_lines=$root/target/bin/node_lines
+needs "$node_lines" "rt check node_lines"
 
 # The printer that is given an input, and the word by which reference/ prints the same.
 printer=$levels word=levels
@@ -126,10 +128,10 @@ pairs_that_do_not_match() {
 # The input comes in two pieces.
 in_pieces() { { head -c 3 "$in"; sleep 0.1; tail -c +4 "$in"; } | "$printer"; }
 
-pieces() { # LEVELS
+pieces() { # TEXT
     run in_pieces
     hold "an input in two pieces: status" [ "$status" -eq 0 ]
-    hold "an input in two pieces: levels" cmp -s "$work/out" "$1"
+    hold "an input in two pieces: every line" cmp -s "$work/out" "$1"
 }
 
 # A text that cannot be written is told, in one line on standard error.
@@ -194,6 +196,47 @@ hours() {
     unwritten
 }
 
+# The node printer's input: a level before that of the level printer.
+at_level() { # K COMMAND...
+    two_bytes "$1"
+    shift
+    "$@"
+}
+
+nodes() {
+    for length in 0 1 2 7; do
+        at_level 1 road_trip 2 | head -c "$length" >"$in"
+        shows "$length bytes of a level's input" input 1
+    done
+    zeros 8 >"$in"
+    shows "8 zeros: a tree of 0 bytes" "refused 1 at 0" 1
+    zeros 9 >"$in"
+    shows "9 zeros" input 1
+    for more in 1 17434 65536 1000000; do
+        { at_level 1 road_trip 2; zeros "$more"; } >"$in"
+        shows "$more bytes behind the sheet" input 1
+    done
+    at_level 1 lengths 7175 17434 >"$in"
+    shows "a level's lengths at their most" "refused 5 at 7175" 1
+    at_level 1 lengths 7176 77 >"$in"
+    shows "a level's tree length 7,176" input 1
+    at_level 1 lengths 42 17435 >"$in"
+    shows "a level's sheet length 17,435" input 1
+    for k in 3 65535; do
+        at_level "$k" road_trip 2 >"$in"
+        shows "level $k of 2" "refused 13 at 0" 1
+    done
+    at_level 0 framed 2 "$road_tree" "$examples/fuel_supply/sheet.fts" >"$in"
+    shows "a level, another tree number" "refused 24 at 0" 1
+    at_level 0 "$reference" case 1 $(($("$reference" limits) - 1)) limits >"$in"
+    number=$(($(od -An -tu1 -j 13 -N 1 "$in") + 256 * $(od -An -tu1 -j 14 -N 1 "$in")))
+    shows "every node of the largest pair" "tree $number events 960 nodes 1024 level 0 of 1000" 1025
+    at_level 1 road_trip 2 >"$in"
+    shows "a level of the road trip" "tree 1 events 3 nodes 5 level 1 of 2" 6
+    pieces "$root/crates/node_lines/stdout"
+    unwritten
+}
+
 answers
 short_inputs
 wrong_sums
@@ -204,4 +247,6 @@ pieces "$examples/road_trip/levels-2.txt"
 unwritten
 printer=$hour_levels word=hours
 hours
+printer=$node_lines word=nodes
+nodes
 finish
