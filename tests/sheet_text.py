@@ -1,5 +1,5 @@
 #!/usr/bin/env -S python3 -B
-"""Tries the sheets and the books that are spreadsheets: desk/cells.py, figures.py, sheet.py and book.py.
+"""Tries the sheets and the books that are spreadsheets: cells.py, figures.py, sheet.py and book.py of desk/text.
 
     tests/sheet_text.py [SEED [COUNT]]      a seed from the clock and 2,000 rounds of each kind, unless said
 

@@ -223,7 +223,8 @@ def any_names(draw, count):
 def one_pair(draw, name, folder, through_command):
     events = any_names(draw, draw.choice([1, 1, 2, 3, 4, 5, 8, 13, 30]))
     root = any_tree(draw, events)
-    experts = [(f"E{i}", draw.randint(1, 100)) for i in range(draw.choice([0, 0, 1, 2, 3, 16]))]
+    experts = [(draw.choice(["E{}", 'Dr. "Bo" {}', "chief; {}", "2., {}"]).format(i), draw.randint(1, 100))
+               for i in range(draw.choice([0, 0, 1, 2, 3, 16]))]
     number = draw.choice([None, 0, 7, 65535])
     entries = {event: any_entry(draw, experts) for event in draw.sample(events, len(events))}
     tree_text = draw.choice([as_galileo, as_open_psa])(draw, root, number)

@@ -77,14 +77,14 @@ def parse_names(text):
             names.experts.append(rest)
         else:
             return None
-    right = first == FIRST_LINE and names.nodes and are_names(names.all_nodes()) and are_names(names.experts)
+    right = first == FIRST_LINE and names.nodes and are_names(names.all_nodes()) and are_names(names.experts, '"')
     return names if right else None
 
 
-def are_names(texts):
-    """Whether a text could give these names, each to one."""
+def are_names(texts, more=""):
+    """Whether a text could give these names, each to one; an expert's may have double quotes too."""
     return len(set(texts)) == len(texts) and all(
-        unfit_at(text) is None and in_single_spaces(text) == text for text in texts)
+        unfit_at(text.replace(more, "")) is None and in_single_spaces(text) == text for text in texts)
 
 
 def names_beside(what, name, data):
