@@ -5,9 +5,9 @@ import re
 from struct import iter_unpack, pack
 
 from desk.asked import LAST_HOUR
+from desk.refusal import LONGEST_BOOK, WINDOW
 from desk.text.cells import cells_text, has_titles, read_cells, read_rows, shown
 from desk.text.faults import Fault, Faulty
-from desk.refusal import LONGEST_BOOK, WINDOW
 
 Window = collections.namedtuple("Window", "event first end place")
 

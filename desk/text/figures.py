@@ -3,8 +3,8 @@ import collections
 import math
 import re
 
-from desk.text.cells import shown
 from desk.refusal import MOST_DENOMINATOR, UNIT
+from desk.text.cells import shown
 
 # A decimal has its least denominator, a fraction the one that it is written with.
 Figure = collections.namedtuple("Figure", "numerator denominator is_fraction")

@@ -3,8 +3,9 @@
 import collections
 import re
 
-from desk.text.fault_tree import (AND, EVENT, LARGEST_NUMBER, OR, Mention, Statement, TreeText, by_place,
-                             character_in_words, in_single_spaces, place_in_words, tree_number, unfit_at)
+from desk.text.fault_tree import (
+    AND, EVENT, LARGEST_NUMBER, OR, Mention, Statement, TreeText, by_place, character_in_words, in_single_spaces,
+    place_in_words, tree_number, unfit_at)
 from desk.text.faults import Fault, Faulty, Place
 from desk.text.lines import Lines
 

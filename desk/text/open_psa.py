@@ -5,9 +5,9 @@ import itertools
 import re
 from xml.parsers import expat
 
-from desk.text.fault_tree import (AND, EVENT, LARGEST_NUMBER, OR, Mention, Statement, TreeText, by_place,
-                             character_in_words, circle_faults, default_names, in_single_spaces, place_in_words,
-                             tree_number, unfit_at)
+from desk.text.fault_tree import (
+    AND, EVENT, LARGEST_NUMBER, OR, Mention, Statement, TreeText, by_place, character_in_words, circle_faults,
+    default_names, in_single_spaces, place_in_words, tree_number, unfit_at)
 from desk.text.faults import Fault, Faulty, Place
 
 KINDS = {"and": AND, "or": OR}

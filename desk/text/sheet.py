@@ -5,10 +5,10 @@ import math
 import re
 from struct import pack, unpack_from
 
+from desk.refusal import ENTRY, EXPERTS, MOST_DENOMINATOR, MOST_NODES, SHEET_HEADER, UNIT
 from desk.text.cells import Cell, cells_text, has_titles, read_cells, read_rows, shown
 from desk.text.faults import Fault, Faulty, Place
 from desk.text.figures import FORMS, NoFigure, begins_as_figure, decimal_text, read_figure
-from desk.refusal import ENTRY, EXPERTS, MOST_DENOMINATOR, MOST_NODES, SHEET_HEADER, UNIT
 
 # The header of a sheet file: letters, version, tree number, events, experts and their scores.
 HEADER, LETTERS, VERSION = f"<3sHHHB{EXPERTS}s", b"FTS", 1
