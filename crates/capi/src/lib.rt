@@ -1,4 +1,6 @@
 // The monitor's calls for C and Rust: numbers, lent slices and structs by value. include/nekbrod.h declares them.
+#![tactic(auto)]
+
 pub mod hand_in;
 pub mod hour;
 pub mod judge;

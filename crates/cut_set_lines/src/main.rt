@@ -1,6 +1,8 @@
 // The minimal cut sets of a tree file: reads the file from standard input, and prints how many there are and then each
 // set on a line, or the refusal of the file. Where that fails, it says so on standard error: a program has no exit
 // status of its own to give.
+#![tactic(auto)]
+
 mod answer;
 mod line;
 mod print;

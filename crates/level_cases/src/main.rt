@@ -1,5 +1,7 @@
 // Runs the level printer on many inputs: each has its length before it, 32 bits wide, low byte first, and so has each
 // text that is printed for one. reference/src/framing.rs writes and reads the same.
+#![tactic(auto)]
+
 use printer::print::{MOST_TEXT, Printed, print_levels};
 
 // The number that four bytes spell, low byte first.

@@ -1,5 +1,7 @@
 // The level printer: reads standard input to its end, and writes the text that is printed for it. Where that fails, it
 // says so on standard error: a program has no exit status of its own to give.
+#![tactic(auto)]
+
 use printer::print::{MOST_TEXT, Printed, print_levels};
 
 fn main() {

@@ -1,4 +1,6 @@
 // The monitor: what it holds, and the calls on it.
+#![tactic(auto)]
+
 pub mod hand_in;
 pub mod held;
 pub mod judge;

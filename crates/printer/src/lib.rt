@@ -1,4 +1,6 @@
 // The level printer: the whole printed text for an input, in a lent buffer.
+#![tactic(auto)]
+
 mod decimal;
 mod field;
 mod input;

@@ -25,12 +25,12 @@ pub end_gaps_respects : {U n k : ℕ} {w : Direction} {rs : List End} {fs : List
 end_gaps_respects e g = rw (← e) g
 
 -- a running end that takes in further ones
-pub run_gap : {U A n : ℕ} {w : Direction} {r : End} {f : Fraction} {xs : List End} {gs : List Fraction}
+pub run_gap : {U : ℕ} {w : Direction} {A n : ℕ} {r : End} {f : Fraction} {xs : List End} {gs : List Fraction}
     → 0 < U → Probability f → AllProbable gs → EndGap U w A r f → EndGaps U w n xs gs
     → EndGap U w (A + n) (run U w r xs) (f ⊗ product gs)
 run_gap i p q k no_gaps = end_gap_respects (omega arith) (sym (times_one _)) k
-run_gap i p q k (add_gap g gs) = end_gap_respects (omega arith) (times_assoc _ _ _)
-    (run_gap i (product_probability _ _ p q.0) q.1 (step_gap i p q.0 k g) gs)
+run_gap {A = A} i p q k (add_gap {A = B} g gs) = end_gap_respects (omega arith) (times_assoc _ _ _)
+    (run_gap {A = A + B + 1} i (product_probability _ _ p q.0) q.1 (step_gap i p q.0 k g) gs)
 
 -- an AND of at least one input: the first step rounds nothing
 pub product_gap : {U n : ℕ} {w : Direction} {xs : List End} {gs : List Fraction}
@@ -40,7 +40,7 @@ product_gap i z q (add_gap g gs) = end_gap_respects (omega arith) (times_assoc _
     (run_gap i (product_probability _ _ one_probability q.0) q.1 (step_start i g) gs)
 
 -- U minus each end stands in for 1 minus each fraction
-pub complement_gaps : {U n : ℕ} {w : Direction} {xs : List End} {gs : List Fraction} → AllProbable gs
+pub complement_gaps : {U : ℕ} {w : Direction} {n : ℕ} {xs : List End} {gs : List Fraction} → AllProbable gs
     → EndGaps U w n xs gs → EndGaps U (opposite w) n (map (end_complement U) xs) (map complement gs)
 complement_gaps q no_gaps = no_gaps
 complement_gaps q (add_gap g gs) = add_gap (complement_gap q.0 g) (complement_gaps q.1 gs)
