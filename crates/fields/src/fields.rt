@@ -18,6 +18,7 @@ pub fn byte_at(s: &[u8], at: usize) -> usize
 }
 
 // The 16-bit field at an offset.
+#[tactic(auto, unfolding(crate::specs::Fields::field16))]
 pub fn field16_at(s: &[u8], at: usize) -> usize
     requires { at + 1 < length s.now }
     ensures { Is16 result (field16 s.now at) }
@@ -28,6 +29,7 @@ pub fn field16_at(s: &[u8], at: usize) -> usize
 }
 
 // The 24-bit field at an offset.
+#[tactic(auto, unfolding(crate::specs::Fields::field24))]
 pub fn field24_at(s: &[u8], at: usize) -> u64
     requires { at + 2 < length s.now }
     ensures { result ≡ field24 s.now at }
@@ -39,6 +41,7 @@ pub fn field24_at(s: &[u8], at: usize) -> u64
 }
 
 // The 32-bit field at an offset.
+#[tactic(auto, unfolding(crate::specs::Fields::field16, crate::specs::Fields::field32))]
 pub fn field32_at(s: &[u8], at: usize) -> u32
     requires { at + 3 < length s.now }
     ensures { result ≡ field32 s.now at }
