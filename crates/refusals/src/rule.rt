@@ -3,7 +3,7 @@ ghost use Rattle.std.specs.Prelude.{◌≡◌};
 ghost use Rattle.refusals.specs.Number.{number_of};
 
 // What is not as it must be: first what can be wrong with an input, then with the state.
-#[derive(Drop)]
+#[derive(Clone, Copy)]
 pub enum Rule {
     // The file ends before its header does.
     TooShort,

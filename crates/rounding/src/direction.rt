@@ -2,7 +2,7 @@
 ghost use Rattle.std.specs.Prelude.{◌≡◌};
 ghost use Rattle.rounding.specs.Ends.{way, upward};
 
-#[derive(Drop)]
+#[derive(Clone, Copy)]
 pub enum Direction {
     Down,
     Up,

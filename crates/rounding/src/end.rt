@@ -1,14 +1,14 @@
 // The ends of an interval.
 
 // An end in units, with the mark that says whether it is exact.
-#[derive(Drop)]
+#[derive(Clone, Copy)]
 pub struct End {
     pub value: u32,
     pub exact: bool,
 }
 
 // Both ends of an interval.
-#[derive(Drop)]
+#[derive(Clone, Copy)]
 pub struct Enclosure {
     pub lower: End,
     pub upper: End,
