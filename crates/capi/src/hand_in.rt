@@ -11,7 +11,7 @@ use monitor::state::State as Held;
 
 // What a hand-in answers: the state after it, and why the file was refused, if it was.
 #[repr(C)]
-#[derive(Drop)]
+#[derive(Clone, Copy)]
 pub struct Answer {
     pub state: State,
     pub refusal: Refusal,

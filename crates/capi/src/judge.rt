@@ -11,7 +11,7 @@ use monitor::judge::judge;
 
 // Why the question would be refused, if it would; else the held tree's nodes (N) and basic events (E).
 #[repr(C)]
-#[derive(Drop)]
+#[derive(Clone, Copy)]
 pub struct Standing {
     pub refusal: Refusal,
     pub nodes: usize,

@@ -14,7 +14,7 @@ use monitor::state::State as Held;
 
 // What counting answers: why it was refused, if it was, and the number of minimal cut sets, 0 where refused.
 #[repr(C)]
-#[derive(Drop)]
+#[derive(Clone, Copy)]
 pub struct SetCount {
     pub refusal: Refusal,
     pub count: u64,
@@ -22,7 +22,7 @@ pub struct SetCount {
 
 // What listing answers: the state, unchanged; why it was refused, if it was; and the number of sets, 0 where refused.
 #[repr(C)]
-#[derive(Drop)]
+#[derive(Clone, Copy)]
 pub struct Listing {
     pub state: State,
     pub refusal: Refusal,

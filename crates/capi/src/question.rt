@@ -15,7 +15,7 @@ use rounding::unit::UNIT;
 // What a question answers: the state, unchanged; why it was refused, if it was; the root's ends in units, each with its
 // mark, and the number of basic events (E). Refused, it has the enclosure that says nothing: 0 to 1, unmarked.
 #[repr(C)]
-#[derive(Drop)]
+#[derive(Clone, Copy)]
 pub struct Reply {
     pub state: State,
     pub refusal: Refusal,

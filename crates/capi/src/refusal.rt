@@ -7,7 +7,7 @@ use refusals::rule::rule_number;
 
 // Document 01's number and place, both 0 where the call was not refused: no rule has number 0.
 #[repr(C)]
-#[derive(Drop)]
+#[derive(Clone, Copy)]
 pub struct Refusal {
     pub number: usize,
     pub place: usize,

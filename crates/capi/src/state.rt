@@ -6,7 +6,7 @@ use monitor::state::State as Held;
 
 // The lengths of the tree file and of the opinion sheet that are held, 0 where none is.
 #[repr(C)]
-#[derive(Drop)]
+#[derive(Clone, Copy)]
 pub struct State {
     pub tree_len: usize,
     pub sheet_len: usize,

@@ -13,14 +13,14 @@ use refusals::refusal::Refusal;
 use refusals::rule::Rule;
 
 // What mirroring comes to.
-#[derive(Drop)]
+#[derive(Clone, Copy)]
 pub enum Outcome {
     Mirrored,
     Refused(Refusal),
 }
 
 // What mirroring answers: the state, unchanged, and the outcome.
-#[derive(Drop)]
+#[derive(Clone, Copy)]
 pub struct Reply {
     pub state: State,
     pub outcome: Outcome,

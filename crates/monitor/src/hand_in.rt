@@ -9,14 +9,14 @@ use refusals::rule::Rule;
 use tree_file::judgement::Judgement as TreeJudgement;
 
 // Whether a file was taken in.
-#[derive(Drop)]
+#[derive(Clone, Copy)]
 pub enum Verdict {
     Accepted,
     Refused(Refusal),
 }
 
 // What a hand-in answers: the state after it, also where it refuses.
-#[derive(Drop)]
+#[derive(Clone, Copy)]
 pub struct Answer {
     pub state: State,
     pub verdict: Verdict,

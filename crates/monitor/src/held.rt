@@ -3,7 +3,7 @@ use refusals::refusal::Refusal;
 use tree_file::judgement::Counts;
 
 // Whether a call can go on: with the counts of the held tree, or refused.
-#[derive(Drop)]
+#[derive(Clone, Copy)]
 pub enum Standing {
     Ready(Counts),
     Refused(Refusal),

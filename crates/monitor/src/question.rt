@@ -19,21 +19,21 @@ use rounding::end::Enclosure;
 use tree_file::judgement::Counts;
 
 // The root's ends in units, each with its mark, and the number of basic events (E).
-#[derive(Drop)]
+#[derive(Clone, Copy)]
 pub struct Report {
     pub ends: Enclosure,
     pub events: usize,
 }
 
 // Answered, or refused.
-#[derive(Drop)]
+#[derive(Clone, Copy)]
 pub enum Outcome {
     Answered(Report),
     Refused(Refusal),
 }
 
 // What a question answers: the state, unchanged, and the outcome.
-#[derive(Drop)]
+#[derive(Clone, Copy)]
 pub struct Reply {
     pub state: State,
     pub outcome: Outcome,
