@@ -2,7 +2,7 @@
 use refusals::refusal::Refusal;
 
 // What an accepted tree file holds: its tree number, its nodes (N) and its basic events (E).
-#[derive(Drop)]
+#[derive(Clone, Copy)]
 pub struct Counts {
     pub number: usize,
     pub nodes: usize,

@@ -10,14 +10,14 @@ use crate::format::{A_OFFSET, AND, B_OFFSET, EVENT, LINK_LENGTH, field_at, kind_
 use fields::fields::field16_at;
 
 // A gate fails when all its inputs do (AND), or when any does (OR).
-#[derive(Drop)]
+#[derive(Clone, Copy)]
 pub enum GateKind {
     All,
     Any,
 }
 
 // A gate: its first link, and how many inputs its links name from there on.
-#[derive(Drop)]
+#[derive(Clone, Copy)]
 pub struct Gate {
     pub kind: GateKind,
     pub first: usize,
@@ -25,7 +25,7 @@ pub struct Gate {
 }
 
 // A basic event by its number, or a gate.
-#[derive(Drop)]
+#[derive(Clone, Copy)]
 pub enum Node {
     Event(usize),
     Gate(Gate),

@@ -1,0 +1,17 @@
+-- The gates passed, and the links passed of this gate, have no fault, and `named` flags the nodes that the links passed
+-- name.
+use Rattle.std.proofs.Common.{◌-◌}
+use Rattle.tree_file.proofs.LinksTurn.{GatesBefore, LinksBefore}
+use Rattle.tree_file.proofs.links.judge_links.Given as goal
+
+abbrev pub invariant-links : goal.invariant-links
+invariant-links l = LinksBefore l.file l.nodes l.named l.j l.gate l.inputs l.k
+
+abbrev pub decreases-links : goal.decreases-links
+decreases-links l = l.inputs - l.k
+
+abbrev pub invariant-gates : goal.invariant-gates
+invariant-gates l = GatesBefore l.file l.nodes l.named l.j l.gate
+
+abbrev pub decreases-gates : goal.decreases-gates
+decreases-gates l = l.nodes - l.gate
