@@ -12,3 +12,4 @@ pub mod SheetAccepted
 pub mod PairTurned
 pub mod LawKept
 pub mod Reply
+pub mod Cases

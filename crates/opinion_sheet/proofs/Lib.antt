@@ -13,3 +13,4 @@ pub mod EventRising
 pub mod CutBounds
 pub mod CutScaled
 pub mod TermWithdrawn
+pub mod Cases

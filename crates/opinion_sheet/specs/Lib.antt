@@ -4,7 +4,6 @@
 -- keep and no other (proofs/Accepted); and `Breaks` (Broken), each rule broken at its place, of which a refusal is the
 -- first in document 01's order (proofs/Broken). Where a listed expert's term is put to 0, the event's cut is wider at
 -- every level: `withdrawn_wider` (proofs/TermWithdrawn). Mean and Requirements stand for contracts of inner functions only.
--- Cases are computed by the prover.
 pub mod Format
 pub mod HeaderRules
 pub mod ScoreRules
@@ -18,4 +17,3 @@ pub mod Mean
 pub mod Cut
 pub mod EventCut
 pub mod Requirements
-pub mod Cases

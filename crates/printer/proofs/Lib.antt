@@ -13,3 +13,4 @@ mod LevelsTurn
 mod Holding
 mod Finishing
 pub mod TextLength
+pub mod Cases

@@ -5,7 +5,6 @@ pub mod Decimal
 pub mod Line
 pub mod Input
 pub mod Text
-pub mod Cases
 pub mod Printed
 pub mod Held
 pub mod Put

@@ -4,3 +4,4 @@ pub mod FirstFault
 pub mod Order
 pub mod Finds
 pub mod Numbered
+pub mod Cases

@@ -66,8 +66,8 @@ module _ (file : List ℕ) (w : WellFormed file) where
       → field_a file i + field_b file i ≤ link_count file
   unfolding inputs_before
   gate_links_end i l g =
-      let up_to_lem = inputs_monotone file (suc i) (node_count file) l in
-      rw ((w.node i l).gate_first g, ← gate_inputs file i g, ← w.all_inputs) up_to_lem
+      let up_to = inputs_monotone file (suc i) (node_count file) l in
+      rw ((w.node i l).gate_first g, ← gate_inputs file i g, ← w.all_inputs) up_to
 
   link_here : (g k : ℕ) → g < node_count file → k < input_count file g → input_fault file g k ≡ Absent
   link_here g k gl kl =

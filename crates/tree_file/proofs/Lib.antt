@@ -15,3 +15,4 @@ pub mod Broken
 pub mod Nodes
 pub mod NodeTable
 pub mod Root
+pub mod Cases

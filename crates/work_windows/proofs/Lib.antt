@@ -11,3 +11,4 @@ pub mod Accepted
 pub mod Certain
 pub mod Reply
 pub mod NeverRefused
+pub mod Cases

@@ -8,5 +8,4 @@ pub mod WellFormed
 pub mod OutOfService
 pub mod Sheet
 pub mod Question
-pub mod Cases
 pub mod Writing
