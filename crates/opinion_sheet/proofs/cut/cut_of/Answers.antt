@@ -1,7 +1,5 @@
 -- What is cut is at most the top, d × n, and that bounds every product.
-use Rattle.std.proofs.Common.{◌*◌, ◌≤◌, ℕ}
 use native.Mathlib.Nat.{sub-le}
-use Rattle.theory.specs.Unit.{billion}
 use Rattle.theory.specs.Trapezoid.{cut}
 use Rattle.theory.specs.Rounding.{cut_end}
 use Rattle.opinion_sheet.proofs.CutBounds as bounds

@@ -1,5 +1,5 @@
 -- The first of the parts' faults is the file's.
-use Rattle.std.proofs.Common.{◌≡◌, sym, ◌∙◌, ap, arith}
+use Rattle.std.proofs.Common.{sym, ◌∙◌, ap, arith}
 use Rattle.theory.specs.Unit.{billion}
 use Rattle.refusals.specs.FirstFault.{first_among}
 use Rattle.opinion_sheet.specs.EntryRules.{entry_fault}
@@ -51,8 +51,8 @@ returns-in-Found-entries c =
       sym c.judge_header-header.ensures ∙ c.in_default.is,
       sym c.judge_scores-scores.ensures ∙ c.in_default-scores.is,
       sym (c.judge_entries-entries.ensures
-      ∙ ap (first_among (entry_fault billion c.args.file.now)) c.event_count-events.ensures.value)
-      ∙ c.in-Found-entries.is,
+          ∙ ap (first_among (entry_fault billion c.args.file.now)) c.event_count-events.ensures.value)
+          ∙ c.in-Found-entries.is,
     )
 
 pub returns : goal.returns
@@ -62,8 +62,8 @@ returns c =
       sym c.judge_header-header.ensures ∙ c.in_default.is,
       sym c.judge_scores-scores.ensures ∙ c.in_default-scores.is,
       sym (c.judge_entries-entries.ensures
-      ∙ ap (first_among (entry_fault billion c.args.file.now)) c.event_count-events.ensures.value)
-      ∙ c.in_default-entries.is,
+          ∙ ap (first_among (entry_fault billion c.args.file.now)) c.event_count-events.ensures.value)
+          ∙ c.in_default-entries.is,
     )
     (λ i. Accepted (record {
       number = c.field16_at-number.ensures.value i;

@@ -21,7 +21,7 @@ pub with_opinion-sums-requires-else-term-eq0 : goal.with_opinion-sums-requires-e
 with_opinion-sums-requires-else-term-eq0 c =
     let listed : c.loop-expert.expert < expert_count c.args.file.now = omega (arith, c.expert_count-experts.ensures.0) in
     let most : c.byte_at-term.result ≤ 7 =
-        omega (arith, c.requires.term_most c.loop-expert.expert listed, c.byte_at-term.ensures.0) in
+    omega (arith, c.requires.term_most c.loop-expert.expert listed, c.byte_at-term.ensures.0) in
     summed_room _ _ _ c.loop-expert.invariant (omega arith) _ _ (omega (arith, c.expert_count-experts.ensures.0))
     (λ j. omega (arith, c.type_inv.file (10 + j)))
     (subst Hundredths (sym c.row_numbers.ensures) (row_most _ c.if-term-eq0.false most))
@@ -31,10 +31,10 @@ pub loop-expert-preserved : goal.loop-expert-preserved
 loop-expert-preserved c =
     let listed : c.loop-expert.expert < expert_count c.args.file.now = omega (arith, c.expert_count-experts.ensures.0) in
     let most : c.byte_at-term.result ≤ 7 =
-        omega (arith, c.requires.term_most c.loop-expert.expert listed, c.byte_at-term.ensures.0) in
+    omega (arith, c.requires.term_most c.loop-expert.expert listed, c.byte_at-term.ensures.0) in
     let read = ap (λ (t : ℕ). in_order (opinion_numbers (opinion_of c.byte_at-score.result t))) c.byte_at-term.ensures.0 in
     elim c.if-term-eq0.branch [
-      then-term-eq0 w ↦
+      | then-term-eq0 w ↦
           rw w.sums-is
           (summed_more _ _ _ c.loop-expert.invariant (omega arith) _ _ c.byte_at-score.ensures.0
           (silence_numbers _ _ w.if-term-eq0.true ∙ read) _ w.with_opinion-sums.ensures)

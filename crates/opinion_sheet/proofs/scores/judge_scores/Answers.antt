@@ -19,7 +19,7 @@ loop-expert-preserved c =
     let experts = c.expert_count-experts.ensures.0 in
     let given = c.byte_at-score.ensures.0 in
     elim c.if-expert-experts.branch [
-      then-expert-experts+else-not-in_range w ↦
+      | then-expert-experts+else-not-in_range w ↦
           listed_passed _ c.loop-expert.invariant (omega arith) _ _ experts given w.if-expert-experts.true _
           w.in_range.ensures (ap not w.if-not-in_range.false)
       | else-expert-experts+else-score-ne0 w ↦
