@@ -1,5 +1,5 @@
 -- The opinions of an entry as the theory has them: an expert's score byte and term byte are what the expert said.
-use Rattle.std.specs.Prelude.{ℕ, zero, suc, ◌+◌, ◌-◌, List, [], ◌∷◌, ◌++◌, cond, get_or, eqb}
+use Rattle.std.specs.Prelude.{ℕ, zero, suc, ◌-◌, List, [], ◌∷◌, ◌++◌, cond, get_or, eqb}
 use Rattle.theory.specs.Opinion.{Term, very_low, low, fairly_low, medium, fairly_high, high, very_high}
 use Rattle.theory.specs.Opinion.{Opinion, says, silent}
 use Rattle.opinion_sheet.specs.Format.{score, term}

@@ -16,7 +16,7 @@ use refusals::rule::Rule;
 use rounding::unit::UNIT;
 
 // Four numbers in units.
-#[derive(Drop)]
+#[derive(Clone, Copy)]
 pub struct Numbers {
     pub a: u32,
     pub b: u32,
@@ -25,7 +25,7 @@ pub struct Numbers {
 }
 
 // An entry as read: its four numbers, the offset of its terms, or its fractions.
-#[derive(Drop)]
+#[derive(Clone, Copy)]
 pub enum Entry {
     Numbers(Numbers),
     Opinions(usize),

@@ -10,7 +10,7 @@ use refusals::refusal::FirstFault;
 use refusals::rule::Rule;
 
 // Four numerators over one denominator.
-#[derive(Drop)]
+#[derive(Clone, Copy)]
 pub struct Fractions {
     pub den: u64,
     pub a: u64,

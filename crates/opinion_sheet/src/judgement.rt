@@ -2,7 +2,7 @@
 use refusals::refusal::Refusal;
 
 // What an accepted sheet holds: the number of its tree, its basic events (E) and its experts.
-#[derive(Drop)]
+#[derive(Clone, Copy)]
 pub struct Counts {
     pub number: usize,
     pub events: usize,
@@ -10,7 +10,7 @@ pub struct Counts {
 }
 
 // Accepted with what it holds, or refused.
-#[derive(Drop)]
+#[derive(Clone, Copy)]
 pub enum Judgement {
     Accepted(Counts),
     Refused(Refusal),

@@ -16,7 +16,7 @@ use fields::fields::byte_at;
 pub const SILENCE: [u32; 4] = [0, 0, 100, 100];
 
 // The sum of the scores, and of score × value for the opinions' a, b, c and d, in hundredths.
-#[derive(Drop)]
+#[derive(Clone, Copy)]
 pub struct Sums {
     pub scores: u32,
     pub a: u32,

@@ -1,0 +1,9 @@
+-- Whole units are cut with no denominator.
+use Rattle.std.proofs.Common.{◌∙◌}
+use lib.Dec.{lit<}
+use Rattle.theory.specs.Unit.{billion}
+use Rattle.opinion_sheet.proofs.CutScaled.{cut_whole}
+use Rattle.opinion_sheet.proofs.cut.cut_numbers.Goals as goal
+
+pub returns : goal.returns
+returns c = c.cut_of.ensures ∙ cut_whole billion (lit< tt) c.args.x _ _ c.requires.1.n_positive

@@ -1,0 +1,33 @@
+-- What is cut is at most the top, d × n, and that bounds every product.
+use native.Mathlib.Nat.{sub-le}
+use Rattle.theory.specs.Trapezoid.{cut}
+use Rattle.theory.specs.Rounding.{cut_end}
+use Rattle.opinion_sheet.proofs.CutBounds as bounds
+use Rattle.opinion_sheet.proofs.cut.cut_of.Goals as goal
+
+pub overflow_mul-low-3 : goal.overflow_mul-low-3
+overflow_mul-low-3 c =
+    bounds.fits_64
+    (bounds.scaled_bounded _ _ _ _ c.requires.0 c.requires.1 _
+    (bounds.lower_bounded _ _ _ _ c.requires.0 c.requires.1))
+
+pub overflow_mul-high-3 : goal.overflow_mul-high-3
+overflow_mul-high-3 c =
+    bounds.fits_64 (bounds.scaled_bounded _ _ _ _ c.requires.0 c.requires.1 _ (sub-le _ _))
+
+pub divided-lower-requires : goal.divided-lower-requires
+divided-lower-requires c = (
+  bounds.denominator_positive _ _ _ _ c.requires.0 c.requires.1,
+  bounds.top_units _ _ _ _ c.requires.0 c.requires.1 _
+      (bounds.lower_bounded _ _ _ _ c.requires.0 c.requires.1),
+)
+
+pub divided-upper-requires : goal.divided-upper-requires
+divided-upper-requires c = (
+  bounds.denominator_positive _ _ _ _ c.requires.0 c.requires.1,
+  bounds.top_units _ _ _ _ c.requires.0 c.requires.1 _ (sub-le _ _),
+)
+
+pub returns : goal.returns
+unfolding cut cut_end
+returns c = λ i. record { lower = c.divided-lower.ensures.0 i; upper = c.divided-upper.ensures.0 i }
