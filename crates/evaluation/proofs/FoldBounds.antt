@@ -30,4 +30,6 @@ module _ (U : ℕ) (positive : 0 < U) where
   pub fold_at_most : (w : Direction) (k : GateKind) (links : List ℕ) (inputs : ℕ) (end : ℕ → End)
       → ((j : ℕ) → j < inputs → (end (linked links j)).value ≤ U) → (fold_end U w k links inputs end).value ≤ U
   fold_at_most w k links inputs end h =
-      seen_at_most k _ (folded_at_most (turned k w) _ inputs (λ j l. seen_at_most k _ (h j l)))
+      let input : ℕ → End = λ j. seen k U (end (linked links j)) in
+      seen_at_most k (folded U (turned k w) input 0 inputs)
+      (folded_at_most (turned k w) input inputs (λ j l. seen_at_most k (end (linked links j)) (h j l)))

@@ -1,0 +1,6 @@
+-- An accepted tree's event has its entry.
+use Rattle.evaluation.proofs.EventsTurn.{cut_asked}
+use Rattle.evaluation.proofs.events.put_event.Goals as goal
+
+pub cut_at-ends-requires : goal.cut_at-ends-requires
+cut_at-ends-requires c = cut_asked c.requires.evaluable c.requires.i_bound c.node_at-node.ensures c.in-Event.is
