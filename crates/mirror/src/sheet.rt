@@ -18,7 +18,7 @@ fn write_entries(sheet: &[u8], events: usize, buffer: &mut [u8])
     while event < events {
         let entry = mirrored_entry(sheet, event);
         let place = HEADER_LENGTH + ENTRY_LENGTH * event;
-        bytes::copy(&entry, &mut buffer[place..]);
+        byte_copy::copy(&entry, &mut buffer[place..]);
         event += 1;
     }
 }
@@ -29,6 +29,6 @@ pub fn write_sheet(sheet: &[u8], events: usize, buffer: &mut [u8])
     ensures { buffer.new
         ≡ mirrored_sheet sheet.now ++ drop (length sheet.now) buffer.old }
 {
-    bytes::copy(sheet, buffer);
+    byte_copy::copy(sheet, buffer);
     write_entries(sheet, events, buffer);
 }

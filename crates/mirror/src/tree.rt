@@ -45,7 +45,7 @@ fn write_records(tree: &[u8], nodes: usize, buffer: &mut [u8])
     while i < nodes {
         let record = mirrored_record(tree, i);
         let place = HEADER_LENGTH + RECORD_LENGTH * i;
-        bytes::copy(&record, &mut buffer[place..]);
+        byte_copy::copy(&record, &mut buffer[place..]);
         i += 1;
     }
 }
@@ -56,6 +56,6 @@ pub fn write_tree(tree: &[u8], nodes: usize, buffer: &mut [u8])
     ensures { buffer.new
         ≡ mirrored_tree tree.now ++ drop (length tree.now) buffer.old }
 {
-    bytes::copy(tree, buffer);
+    byte_copy::copy(tree, buffer);
     write_records(tree, nodes, buffer);
 }

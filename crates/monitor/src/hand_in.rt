@@ -43,7 +43,7 @@ pub fn hand_in_tree(state: State, tree: &[u8], store: &mut [u8]) -> Answer
             }),
         };
     }
-    let tree_len = bytes::copy(tree, store);
+    let tree_len = byte_copy::copy(tree, store);
     Answer {
         state: State {
             tree_len,
@@ -74,7 +74,7 @@ pub fn hand_in_sheet(state: State, sheet: &[u8], store: &mut [u8]) -> Answer
             }),
         };
     }
-    let sheet_len = bytes::copy(sheet, store);
+    let sheet_len = byte_copy::copy(sheet, store);
     Answer {
         state: State {
             tree_len: state.tree_len,

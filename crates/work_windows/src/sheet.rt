@@ -34,7 +34,7 @@ fn put_certain(event: usize, buffer: &mut [u8])
     ensures { buffer.new ≡ with_certain billion event buffer.old }
 {
     let place = HEADER_LENGTH + ENTRY_LENGTH * event;
-    bytes::copy(&CERTAIN_ENTRY, &mut buffer[place..]);
+    byte_copy::copy(&CERTAIN_ENTRY, &mut buffer[place..]);
 }
 
 // Puts the event of window i where it is open.
@@ -69,6 +69,6 @@ pub fn write_sheet(sheet: &[u8], book: &[u8], hour: u32, buffer: &mut [u8])
     ensures { buffer.new ≡ written_sheet sheet.now book.now hour
         ++ drop (length sheet.now) buffer.old }
 {
-    bytes::copy(sheet, buffer);
+    byte_copy::copy(sheet, buffer);
     put_windows(book, book.len() / WINDOW_LENGTH, hour, buffer);
 }
