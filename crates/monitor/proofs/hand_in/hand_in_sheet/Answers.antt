@@ -1,0 +1,63 @@
+-- The answer and the store after, by the judgement and by the length of the store.
+use Rattle.std.proofs.Common.{◌≡◌, sym, ◌∙◌, List, ℕ, length}
+use Rattle.refusals.specs.declared.refusal.FirstFault.TheVariants.{Absent}
+use Rattle.opinion_sheet.specs.Judged.{fault_of}
+use Rattle.opinion_sheet.proofs.Accepted.{accepted_absent, refused_found}
+use Rattle.monitor.specs.HandIn.{holding_sheet}
+use Rattle.monitor.specs.declared.state.State.{State}
+use Rattle.monitor.proofs.HandIn.{refused_file, refused_store, taken}
+use Rattle.monitor.proofs.hand_in.hand_in_sheet.Goals as goal
+
+-- the state that holds the file
+abbrev after : List ℕ → State → State
+after file state = holding_sheet (length file) state
+
+pub returns-in-Refused-clause-value : goal.returns-in-Refused-clause-value
+returns-in-Refused-clause-value c =
+    let f = c.args.sheet.now in
+    (refused_file (fault_of f) f c.args.store.now c.args.state (after f c.args.state) c.in-Refused.refusal
+    (refused_found _ _ _ (sym c.judge-judgement.ensures ∙ c.in-Refused.is))).0
+
+pub returns-in-Refused-clause-store_after : goal.returns-in-Refused-clause-store_after
+returns-in-Refused-clause-store_after c =
+    let f = c.args.sheet.now in
+    (refused_file (fault_of f) f c.args.store.now c.args.state (after f c.args.state) c.in-Refused.refusal
+    (refused_found _ _ _ (sym c.judge-judgement.ensures ∙ c.in-Refused.is))).1
+
+pub returns-then-store-sheet-clause-value : goal.returns-then-store-sheet-clause-value
+returns-then-store-sheet-clause-value c =
+    let f = c.args.sheet.now in
+    (refused_store (fault_of f) f c.args.store.now c.args.state (after f c.args.state)
+    (accepted_absent _ _ _ (sym c.judge-judgement.ensures ∙ c.in_default.is)).0
+    c.if-store-sheet.true).0
+
+pub returns-then-store-sheet-clause-store_after : goal.returns-then-store-sheet-clause-store_after
+returns-then-store-sheet-clause-store_after c =
+    let f = c.args.sheet.now in
+    (refused_store (fault_of f) f c.args.store.now c.args.state (after f c.args.state)
+    (accepted_absent _ _ _ (sym c.judge-judgement.ensures ∙ c.in_default.is)).0
+    c.if-store-sheet.true).1
+
+pub returns-clause-value : goal.returns-clause-value
+returns-clause-value c =
+    let f = c.args.sheet.now in
+    let count = c.copy-sheet_len.ensures.count in
+    (taken (fault_of f) f c.args.store.now c.args.state (after f c.args.state)
+    (accepted_absent _ _ _ (sym c.judge-judgement.ensures ∙ c.in_default.is)).0
+    c.if-store-sheet.false
+    (holding_sheet c.copy-sheet_len.result c.args.state)
+    (λ i. holding_sheet (count i) c.args.state)
+    c.copy-sheet_len.new.to
+    c.copy-sheet_len.ensures.copied).0
+
+pub returns-clause-store_after : goal.returns-clause-store_after
+returns-clause-store_after c =
+    let f = c.args.sheet.now in
+    let count = c.copy-sheet_len.ensures.count in
+    (taken (fault_of f) f c.args.store.now c.args.state (after f c.args.state)
+    (accepted_absent _ _ _ (sym c.judge-judgement.ensures ∙ c.in_default.is)).0
+    c.if-store-sheet.false
+    (holding_sheet c.copy-sheet_len.result c.args.state)
+    (λ i. holding_sheet (count i) c.args.state)
+    c.copy-sheet_len.new.to
+    c.copy-sheet_len.ensures.copied).1
