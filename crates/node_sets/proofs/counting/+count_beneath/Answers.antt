@@ -24,10 +24,10 @@ count_beneath-count-requires t c = (
   omega (
     arith,
     input_falls c.requires c.node_at-node.ensures c.in-Gate.is c.loop-j.invariant c.loop-j-test.true
-    c.input_at-input.ensures,
+        c.input_at-input.ensures,
   ),
   input_countable c.requires c.node_at-node.ensures c.in-Gate.is c.loop-j.invariant c.loop-j-test.true
-  c.input_at-input.ensures,
+      c.input_at-input.ensures,
 )
 
 pub joined-total-requires : goal.joined-total-requires

@@ -50,10 +50,10 @@ set_at-set-requires t c = (
   omega (
     arith,
     node_falls c.requires c.node_at-node.ensures c.in-Gate.is c.in-All.is c.loop-j.invariant c.loop-j-test.true
-    c.input_at-input.ensures,
+        c.input_at-input.ensures,
   ),
   node_listable c.requires c.node_at-node.ensures c.in-Gate.is c.in-All.is c.loop-j.invariant c.loop-j-test.true
-  c.input_at-input.ensures,
+      c.input_at-input.ensures,
 )
 
 pub nonzero_div-rest : goal.nonzero_div-rest
