@@ -1,5 +1,7 @@
 // The line of a set: the numbers of its events, rising, parted by one space.
-ghost use Rattle.io.specs.Counts.{IsPrefixLen};
+ghost use Rattle.program_text.specs.Front.{IsPrefixLen};
+
+use program_text::lines::put_text;
 
 // Puts a byte at a place of the line; the place after it. A line has room for 64 events, so that none is left out.
 fn put_byte(byte: u8, at: usize, line: &mut [u8]) -> usize {
@@ -44,11 +46,9 @@ fn put_event(bit: u64, event: u8, at: usize, line: &mut [u8]) -> usize {
 fn put_set(set: u64, line: &mut [u8]) -> usize {
     let mut bits = set;
     let mut at = 0;
-    let mut event = 0u8;
-    while event < 64 {
+    for event in 0..64u8 {
         at = put_event(bits % 2, event, at, line);
         bits /= 2;
-        event += 1;
     }
     put_byte(10, at, line)
 }
@@ -64,9 +64,9 @@ fn front(length: usize, room: &[u8]) -> usize
 }
 
 // Prints the line of a set; whether it was written.
-pub fn print_set(set: u64) -> bool {
+pub fn print_set(rt: &impl Print, set: u64) -> bool {
     let mut line = [0u8; 192];
     let put = put_set(set, &mut line);
     let length = front(put, &line);
-    io::write_all(libc::STDOUT_FILENO, &line[..length])
+    put_text(rt, &line[..length])
 }

@@ -15,6 +15,7 @@ const MOST_NODES: usize = 1024;
 
 // Questions level n of n at the hour, and prints the levels of the sheet that it leaves in the buffer, or the refusal.
 fn print_asked(
+    rt: &impl Print,
     state: State,
     asked: Asked,
     tree_store: &[u8],
@@ -40,15 +41,16 @@ fn print_asked(
     );
     let outcome = reply.outcome;
     if let Outcome::Refused(refusal) = outcome {
-        return print_refusal(refusal);
+        return print_refusal(rt, refusal);
     }
     let tree = front(asked.tree, tree_store);
     let sheet = front(asked.sheet, buffer);
-    print_hour(asked.n, &tree_store[..tree], &buffer[..sheet])
+    print_hour(rt, asked.n, &tree_store[..tree], &buffer[..sheet])
 }
 
 // Hands in the sheet, and asks.
 fn print_with_sheet(
+    rt: &impl Print,
     state: State,
     asked: Asked,
     tree_store: &[u8],
@@ -59,14 +61,22 @@ fn print_with_sheet(
     let answer = hand_in_sheet(state, sheet, &mut store);
     let verdict = answer.verdict;
     if let Verdict::Refused(refusal) = verdict {
-        return print_refusal(refusal);
+        return print_refusal(rt, refusal);
     }
     let mut buffer = [0u8; MOST_SHEET];
-    print_asked(answer.state, asked, tree_store, &store, book, &mut buffer)
+    print_asked(
+        rt,
+        answer.state,
+        asked,
+        tree_store,
+        &store,
+        book,
+        &mut buffer,
+    )
 }
 
 // Hands in the tree, then the sheet, and asks.
-pub fn print_pair(asked: Asked, tree: &[u8], sheet: &[u8], book: &[u8]) -> bool {
+pub fn print_pair(rt: &impl Print, asked: Asked, tree: &[u8], sheet: &[u8], book: &[u8]) -> bool {
     let mut store = [0u8; MOST_TREE];
     let empty = State {
         tree_len: 0,
@@ -75,7 +85,7 @@ pub fn print_pair(asked: Asked, tree: &[u8], sheet: &[u8], book: &[u8]) -> bool 
     let answer = hand_in_tree(empty, tree, &mut store);
     let verdict = answer.verdict;
     if let Verdict::Refused(refusal) = verdict {
-        return print_refusal(refusal);
+        return print_refusal(rt, refusal);
     }
-    print_with_sheet(answer.state, asked, &store, sheet, book)
+    print_with_sheet(rt, answer.state, asked, &store, sheet, book)
 }

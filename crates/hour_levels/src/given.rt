@@ -2,13 +2,12 @@
 // first, then the tree, the sheet and the book. Each function answers whether all of its text was written.
 use crate::answer::print_pair;
 use fields::fields::{field16_at, field32_at};
-use libc::STDIN_FILENO;
 use program_text::front::front;
 use program_text::lines::print_input;
-use program_text::read::{MOST_SHEET, MOST_TREE, read_part};
+use program_text::read::{MOST_SHEET, MOST_TREE, read_full, read_part};
 
 // The number of levels and the hour that are asked for, and the lengths of the files.
-#[derive(Drop)]
+#[derive(Clone, Copy)]
 pub struct Asked {
     pub n: u32,
     pub hour: u32,
@@ -18,30 +17,31 @@ pub struct Asked {
 }
 
 // Reads the files, and prints the levels. A book as long as the array is longer than a 16-bit length can say.
-fn print_files(asked: Asked) -> bool {
+fn print_files(rt: &(impl Input + Print), asked: Asked) -> bool {
     let mut tree = [0u8; MOST_TREE];
     let mut sheet = [0u8; MOST_SHEET];
     let mut book = [0u8; 65536];
-    let tree_came = read_part(asked.tree, &mut tree);
-    let sheet_came = read_part(asked.sheet, &mut sheet);
-    let book_len = io::read_full(STDIN_FILENO, &mut book);
+    let tree_came = read_part(rt, asked.tree, &mut tree);
+    let sheet_came = read_part(rt, asked.sheet, &mut sheet);
+    let book_len = read_full(rt, &mut book);
     if tree_came & sheet_came & (book_len == asked.book) {
         let tree_len = front(asked.tree, &tree);
         let sheet_len = front(asked.sheet, &sheet);
         return print_pair(
+            rt,
             asked,
             &tree[..tree_len],
             &sheet[..sheet_len],
             &book[..book_len],
         );
     }
-    print_input()
+    print_input(rt)
 }
 
 // Reads the input, and prints the levels.
-pub fn print_given() -> bool {
+pub fn print_given(rt: &(impl Input + Print)) -> bool {
     let mut head = [0u8; 12];
-    let got = io::read_full(STDIN_FILENO, &mut head);
+    let got = read_full(rt, &mut head);
     let asked = Asked {
         n: field16_at(&head, 0) as u32,
         hour: field32_at(&head, 8),
@@ -50,7 +50,7 @@ pub fn print_given() -> bool {
         book: field16_at(&head, 6),
     };
     if (got == 12) & (asked.tree <= MOST_TREE) & (asked.sheet <= MOST_SHEET) {
-        return print_files(asked);
+        return print_files(rt, asked);
     }
-    print_input()
+    print_input(rt)
 }

@@ -1,8 +1,8 @@
 // The levels of a tree with the sheet of an hour: the level printer's text for the two.
 use crate::part::put_bytes;
-use libc::STDOUT_FILENO;
 use printer::print::{MOST_TEXT, Printed, print_levels};
 use program_text::front::front;
+use program_text::lines::put_text;
 
 // Puts a 16-bit number at a place, low byte first; the place after it.
 fn put_number(number: usize, place: usize, room: &mut [u8]) -> usize {
@@ -20,14 +20,14 @@ fn put_input(n: u32, tree: &[u8], sheet: &[u8], input: &mut [u8]) -> usize {
 }
 
 // Prints the levels; whether all of their text was written.
-pub fn print_hour(n: u32, tree: &[u8], sheet: &[u8]) -> bool {
+pub fn print_hour(rt: &impl Print, n: u32, tree: &[u8], sheet: &[u8]) -> bool {
     let mut input = [0u8; 24615];
     let end = put_input(n, tree, sheet, &mut input);
     let length = front(end, &input);
     let mut text = [0u8; MOST_TEXT];
     let printed = print_levels(&input[..length], &mut text);
     if let Printed::Complete(size) = printed {
-        return io::write_all(STDOUT_FILENO, &text[..size]);
+        return put_text(rt, &text[..size]);
     }
     false
 }

@@ -1,6 +1,5 @@
 // The hour printer: reads a tree file, an opinion sheet, a book of work windows and an hour on standard input, and
-// writes the levels of that hour. Where that fails, it says so on standard error: a program has no exit status of its
-// own to give.
+// writes the levels of that hour. Where that fails, it says so on standard error.
 #![tactic(auto)]
 
 mod answer;
@@ -8,12 +7,9 @@ mod given;
 mod levels;
 mod part;
 
-fn main() {
-    let written = given::print_given();
+fn main(rt: HostRuntime) {
+    let written = given::print_given(&rt);
     if !written {
-        io::write_all(
-            libc::STDERR_FILENO,
-            b"hour_levels: the text could not be written\n",
-        );
+        let _ = eprintln!(rt; "hour_levels: the text could not be written");
     }
 }

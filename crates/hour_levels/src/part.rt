@@ -3,14 +3,12 @@
 // Puts bytes at a place, as far as there is room; the place after them.
 pub fn put_bytes(bytes: &[u8], place: usize, room: &mut [u8]) -> usize {
     let mut end = place;
-    let mut i = 0;
-    while i < bytes.len() {
+    for byte in bytes {
         if room.len() <= end {
             return end;
         }
-        room[end] = bytes[i];
+        room[end] = *byte;
         end += 1;
-        i += 1;
     }
     end
 }

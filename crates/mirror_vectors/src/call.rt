@@ -1,10 +1,10 @@
 // Reading a call: six numbers of 32 bits, low byte first; the bytes of both stores follow.
 use fields::fields::field32_at;
-use libc::STDIN_FILENO;
 use monitor::state::State;
+use program_text::read::read_full;
 
 // The lengths of the stores, the state, and the lengths of the buffers.
-#[derive(Drop)]
+#[derive(Clone, Copy)]
 pub struct Call {
     pub tree_store: usize,
     pub sheet_store: usize,
@@ -14,16 +14,16 @@ pub struct Call {
 }
 
 // The next call, or that the list is at its end.
-#[derive(Drop)]
+#[derive(Clone, Copy)]
 pub enum Next {
     Call(Call),
     End,
 }
 
 // The next call on standard input, without the stores' bytes that follow it.
-pub fn read_call() -> Next {
+pub fn read_call(rt: &impl Input) -> Next {
     let mut head = [0u8; 24];
-    let got = io::read_full(STDIN_FILENO, &mut head);
+    let got = read_full(rt, &mut head);
     if got < 24 {
         return Next::End;
     }

@@ -5,8 +5,8 @@
 mod call;
 mod run;
 
-fn main() {
+fn main(rt: HostRuntime) {
     let mut tree = [0u8; 8000];
     let mut sheet = [0u8; 18000];
-    run::run(&mut tree, &mut sheet);
+    run::run(&rt, &mut tree, &mut sheet);
 }

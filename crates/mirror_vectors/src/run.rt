@@ -7,17 +7,18 @@ use program_text::lines::print_refusal;
 use program_text::read::read_part;
 use program_text::store::{print_after, print_text};
 
-fn print_outcome(outcome: Outcome) {
+fn print_outcome(rt: &impl Print, outcome: Outcome) {
     match outcome {
-        Outcome::Mirrored => print_text(b"mirrored\n"),
+        Outcome::Mirrored => print_text(rt, b"mirrored\n"),
         Outcome::Refused(refusal) => {
-            print_refusal(refusal);
+            print_refusal(rt, refusal);
         }
     }
 }
 
 // Mirrors with these stores and buffers.
 fn mirror_with(
+    rt: &impl Print,
     state: State,
     tree: &[u8],
     sheet: &[u8],
@@ -26,17 +27,18 @@ fn mirror_with(
 ) {
     let reply = mirror(state, tree, sheet, tree_buffer, sheet_buffer);
     let outcome = reply.outcome;
-    print_outcome(outcome);
-    print_after(reply.state, tree_buffer, sheet_buffer);
+    print_outcome(rt, outcome);
+    print_after(rt, reply.state, tree_buffer, sheet_buffer);
 }
 
 // Mirrors with the fronts of fresh buffers, filled so that what a call leaves alone is seen.
-fn mirror_fresh(call: Call, tree: &[u8], sheet: &[u8]) {
+fn mirror_fresh(rt: &impl Print, call: Call, tree: &[u8], sheet: &[u8]) {
     let mut tree_buffer = [238u8; 8000];
     let mut sheet_buffer = [238u8; 18000];
     let tree_room = front(call.tree_buffer, &tree_buffer);
     let sheet_room = front(call.sheet_buffer, &sheet_buffer);
     mirror_with(
+        rt,
         call.state,
         tree,
         sheet,
@@ -46,23 +48,21 @@ fn mirror_fresh(call: Call, tree: &[u8], sheet: &[u8]) {
 }
 
 // Reads the stores' bytes, and mirrors.
-fn answer_call(call: Call, tree: &mut [u8], sheet: &mut [u8]) {
-    read_part(call.tree_store, tree);
-    read_part(call.sheet_store, sheet);
+fn answer_call(rt: &(impl Input + Print), call: Call, tree: &mut [u8], sheet: &mut [u8]) {
+    read_part(rt, call.tree_store, tree);
+    read_part(rt, call.sheet_store, sheet);
     let tree_end = front(call.tree_store, tree);
     let sheet_end = front(call.sheet_store, sheet);
-    mirror_fresh(call, &tree[..tree_end], &sheet[..sheet_end]);
+    mirror_fresh(rt, call, &tree[..tree_end], &sheet[..sheet_end]);
 }
 
 // A proved loop has to end, so there is a most number of calls.
-pub fn run(tree: &mut [u8], sheet: &mut [u8]) {
-    let mut left: u64 = 100000;
-    while left > 0 {
-        let next = read_call();
+pub fn run(rt: &(impl Input + Print), tree: &mut [u8], sheet: &mut [u8]) {
+    for _ in 0..100000u64 {
+        let next = read_call(rt);
         let Next::Call(call) = next else {
             return;
         };
-        answer_call(call, tree, sheet);
-        left -= 1;
+        answer_call(rt, call, tree, sheet);
     }
 }

@@ -14,7 +14,7 @@ use tree_file::judgement::Counts;
 const MOST_NODES: usize = 1024;
 
 // Level k of n.
-#[derive(Drop)]
+#[derive(Clone, Copy)]
 pub struct Level {
     pub k: u32,
     pub n: u32,
@@ -22,6 +22,7 @@ pub struct Level {
 
 // Questions the level, and prints the header and the nodes of a tree with these counts.
 fn print_asked(
+    rt: &impl Print,
     level: Level,
     counts: Counts,
     state: State,
@@ -43,37 +44,49 @@ fn print_asked(
     );
     let outcome = reply.outcome;
     if let Outcome::Refused(refusal) = outcome {
-        return print_refusal(refusal);
+        return print_refusal(rt, refusal);
     }
-    let told = print_header(counts, level.k, level.n);
+    let told = print_header(rt, counts, level.k, level.n);
     if !told {
         return false;
     }
-    print_nodes(counts.nodes, &lower, &upper, &marks)
+    print_nodes(rt, counts.nodes, &lower, &upper, &marks)
 }
 
 // The nodes of the held pair.
-fn print_held(level: Level, state: State, tree_store: &[u8], sheet_store: &[u8]) -> bool {
+fn print_held(
+    rt: &impl Print,
+    level: Level,
+    state: State,
+    tree_store: &[u8],
+    sheet_store: &[u8],
+) -> bool {
     let standing = judge_tree(state, tree_store);
     match standing {
-        Standing::Ready(counts) => print_asked(level, counts, state, tree_store, sheet_store),
-        Standing::Refused(refusal) => print_refusal(refusal),
+        Standing::Ready(counts) => print_asked(rt, level, counts, state, tree_store, sheet_store),
+        Standing::Refused(refusal) => print_refusal(rt, refusal),
     }
 }
 
 // Hands in the sheet, and asks.
-fn print_with_sheet(level: Level, state: State, tree_store: &[u8], sheet: &[u8]) -> bool {
+fn print_with_sheet(
+    rt: &impl Print,
+    level: Level,
+    state: State,
+    tree_store: &[u8],
+    sheet: &[u8],
+) -> bool {
     let mut store = [0u8; MOST_SHEET];
     let answer = hand_in_sheet(state, sheet, &mut store);
     let verdict = answer.verdict;
     if let Verdict::Refused(refusal) = verdict {
-        return print_refusal(refusal);
+        return print_refusal(rt, refusal);
     }
-    print_held(level, answer.state, tree_store, &store)
+    print_held(rt, level, answer.state, tree_store, &store)
 }
 
 // Hands in the tree, then the sheet, and asks.
-pub fn print_pair(level: Level, tree: &[u8], sheet: &[u8]) -> bool {
+pub fn print_pair(rt: &impl Print, level: Level, tree: &[u8], sheet: &[u8]) -> bool {
     let mut store = [0u8; MOST_TREE];
     let empty = State {
         tree_len: 0,
@@ -82,7 +95,7 @@ pub fn print_pair(level: Level, tree: &[u8], sheet: &[u8]) -> bool {
     let answer = hand_in_tree(empty, tree, &mut store);
     let verdict = answer.verdict;
     if let Verdict::Refused(refusal) = verdict {
-        return print_refusal(refusal);
+        return print_refusal(rt, refusal);
     }
-    print_with_sheet(level, answer.state, &store, sheet)
+    print_with_sheet(rt, level, answer.state, &store, sheet)
 }

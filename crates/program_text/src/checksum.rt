@@ -11,10 +11,8 @@ pub fn of_byte(byte: u8) -> u64 {
 
 pub fn bytes_sum(bytes: &[u8]) -> u64 {
     let mut sum = 0;
-    let mut i = 0;
-    while i < bytes.len() {
-        sum = with_place(sum, of_byte(bytes[i]));
-        i += 1;
+    for byte in bytes {
+        sum = with_place(sum, of_byte(*byte));
     }
     sum
 }

@@ -1,5 +1,5 @@
 // The front of a slice.
-ghost use Rattle.io.specs.Counts.{IsPrefixLen};
+ghost use Rattle.program_text.specs.Front.{IsPrefixLen};
 
 // A length as far as there is room.
 pub fn front(length: usize, room: &[u8]) -> usize

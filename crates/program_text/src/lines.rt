@@ -1,25 +1,33 @@
 // The lines that are no answer: a refusal, and that the input is not as long as it says. Each function answers whether
 // all of its text was written.
-use libc::STDOUT_FILENO;
 use refusals::refusal::Refusal;
 use refusals::rule::rule_number;
 
+// A number in decimal.
+pub fn put_decimal(rt: &impl Print, number: u64) -> bool {
+    rt.print(number).is_ok()
+}
+
+pub fn put_text(rt: &impl Print, text: &[u8]) -> bool {
+    rt.write_all(text).is_ok()
+}
+
 // A text and a number after it.
-pub fn print_labelled(file: i32, text: &[u8], number: u64) -> bool {
-    let told = io::write_all(file, text);
-    let counted = io::print_decimal(file, number);
+pub fn print_labelled(rt: &impl Print, text: &[u8], number: u64) -> bool {
+    let told = put_text(rt, text);
+    let counted = put_decimal(rt, number);
     told & counted
 }
 
-pub fn print_refusal(refusal: Refusal) -> bool {
+pub fn print_refusal(rt: &impl Print, refusal: Refusal) -> bool {
     let rule = refusal.rule;
     let number = rule_number(rule);
-    let told = print_labelled(STDOUT_FILENO, b"refused ", number as u64);
-    let placed = print_labelled(STDOUT_FILENO, b" at ", refusal.place as u64);
-    let ended = io::write_all(STDOUT_FILENO, b"\n");
+    let told = print_labelled(rt, b"refused ", number as u64);
+    let placed = print_labelled(rt, b" at ", refusal.place as u64);
+    let ended = put_text(rt, b"\n");
     told & placed & ended
 }
 
-pub fn print_input() -> bool {
-    io::write_all(STDOUT_FILENO, b"input\n")
+pub fn print_input(rt: &impl Print) -> bool {
+    put_text(rt, b"input\n")
 }

@@ -12,70 +12,71 @@ use program_text::store::{print_after, print_decimal, print_line_end, print_numb
 use rounding::end::End;
 
 // The number of basic events, which ends a line.
-fn print_events(events: usize) {
-    print_text(b" events ");
-    print_number(events);
-    print_line_end();
+fn print_events(rt: &impl Print, events: usize) {
+    print_text(rt, b" events ");
+    print_number(rt, events);
+    print_line_end(rt);
 }
 
-fn print_standing(standing: Standing) {
+fn print_standing(rt: &impl Print, standing: Standing) {
     match standing {
         Standing::Ready(counts) => {
-            print_text(b"nodes ");
-            print_number(counts.nodes);
-            print_events(counts.events);
+            print_text(rt, b"nodes ");
+            print_number(rt, counts.nodes);
+            print_events(rt, counts.events);
         }
         Standing::Refused(refusal) => {
-            print_refusal(refusal);
+            print_refusal(rt, refusal);
         }
     }
 }
 
 // Judges level k of n. The state is not handed back: it is the one that went in.
-pub fn call_judge(state: State, k: u32, n: u32, tree: &[u8], sheet: &[u8]) {
+pub fn call_judge(rt: &impl Print, state: State, k: u32, n: u32, tree: &[u8], sheet: &[u8]) {
     let standing = monitor::judge::judge(state, tree, sheet, k, n);
-    print_standing(standing);
-    print_after(state, tree, sheet);
+    print_standing(rt, standing);
+    print_after(rt, state, tree, sheet);
 }
 
 // An end's units and its mark.
-fn print_end(end: End) {
-    print_decimal(of_units(end.value));
+fn print_end(rt: &impl Print, end: End) {
+    print_decimal(rt, of_units(end.value));
     if end.exact {
-        print_text(b" =");
+        print_text(rt, b" =");
     } else {
-        print_text(b" ~");
+        print_text(rt, b" ~");
     }
 }
 
-fn print_report(report: Report) {
-    print_text(b"lower ");
-    print_end(report.ends.lower);
-    print_text(b" upper ");
-    print_end(report.ends.upper);
-    print_events(report.events);
+fn print_report(rt: &impl Print, report: Report) {
+    print_text(rt, b"lower ");
+    print_end(rt, report.ends.lower);
+    print_text(rt, b" upper ");
+    print_end(rt, report.ends.upper);
+    print_events(rt, report.events);
 }
 
-pub fn print_outcome(outcome: Outcome) {
+pub fn print_outcome(rt: &impl Print, outcome: Outcome) {
     match outcome {
-        Outcome::Answered(report) => print_report(report),
+        Outcome::Answered(report) => print_report(rt, report),
         Outcome::Refused(refusal) => {
-            print_refusal(refusal);
+            print_refusal(rt, refusal);
         }
     }
 }
 
-fn print_slices(lower: &[u32], upper: &[u32], marks: &[u8]) {
-    print_text(b"lower");
-    print_units(lower);
-    print_text(b"upper");
-    print_units(upper);
-    print_text(b"marks");
-    print_marks(marks);
+fn print_slices(rt: &impl Print, lower: &[u32], upper: &[u32], marks: &[u8]) {
+    print_text(rt, b"lower");
+    print_units(rt, lower);
+    print_text(rt, b"upper");
+    print_units(rt, upper);
+    print_text(rt, b"marks");
+    print_marks(rt, marks);
 }
 
 // Questions level k of n with these work slices; the state after it.
 fn question_with(
+    rt: &impl Print,
     state: State,
     tree: &[u8],
     sheet: &[u8],
@@ -87,14 +88,15 @@ fn question_with(
 ) -> State {
     let reply = monitor::question::question(state, tree, sheet, k, n, lower, upper, marks);
     let outcome = reply.outcome;
-    print_outcome(outcome);
-    print_after(reply.state, tree, sheet);
-    print_slices(lower, upper, marks);
+    print_outcome(rt, outcome);
+    print_after(rt, reply.state, tree, sheet);
+    print_slices(rt, lower, upper, marks);
     reply.state
 }
 
 // Questions a level with the front of the work slices.
 fn question_within(
+    rt: &impl Print,
     state: State,
     question: Question,
     tree: &[u8],
@@ -107,6 +109,7 @@ fn question_within(
     let uppers = units_front(question.upper, upper);
     let places = front(question.marks, marks);
     question_with(
+        rt,
         state,
         tree,
         sheet,
@@ -119,11 +122,17 @@ fn question_within(
 }
 
 // Questions a level with fresh work slices, filled so that what a question leaves alone is seen.
-pub fn call_question(state: State, question: Question, tree: &[u8], sheet: &[u8]) -> State {
+pub fn call_question(
+    rt: &impl Print,
+    state: State,
+    question: Question,
+    tree: &[u8],
+    sheet: &[u8],
+) -> State {
     let mut lower = [4000000001u32; 1100];
     let mut upper = [4000000002u32; 1100];
     let mut marks = [238u8; 1100];
     question_within(
-        state, question, tree, sheet, &mut lower, &mut upper, &mut marks,
+        rt, state, question, tree, sheet, &mut lower, &mut upper, &mut marks,
     )
 }

@@ -1,8 +1,9 @@
 // Reading a call: a byte that says which, and five numbers of 32 bits, low byte first.
 use fields::fields::field32_at;
+use program_text::read::read_full;
 
 // A call on the monitor, or a setting of what it works on.
-#[derive(Drop)]
+#[derive(Clone, Copy)]
 pub enum Call {
     // The lengths of the tree store and of the sheet store.
     Stores(usize, usize),
@@ -27,7 +28,7 @@ pub enum Call {
 }
 
 // A question at an hour, or a setting of what is lent for it.
-#[derive(Drop)]
+#[derive(Clone, Copy)]
 pub enum AtHour {
     // The length of the book that follows.
     Book(usize),
@@ -37,7 +38,7 @@ pub enum AtHour {
 }
 
 // Level k of n, and the lengths of the three work slices.
-#[derive(Drop)]
+#[derive(Clone, Copy)]
 pub struct Question {
     pub k: u32,
     pub n: u32,
@@ -86,9 +87,9 @@ fn call_of(which: u8, one: u32, two: u32, three: u32, four: u32, five: u32) -> C
 }
 
 // The next call on standard input, without the file that may follow it.
-pub fn read_call() -> Call {
+pub fn read_call(rt: &impl Input) -> Call {
     let mut head = [0u8; 21];
-    let got = io::read_full(libc::STDIN_FILENO, &mut head);
+    let got = read_full(rt, &mut head);
     if got < 21 {
         return Call::End;
     }

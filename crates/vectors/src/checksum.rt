@@ -12,10 +12,8 @@ pub fn of_units(units: u32) -> u64 {
 
 pub fn units_sum(units: &[u32]) -> u64 {
     let mut sum = 0;
-    let mut i = 0;
-    while i < units.len() {
-        sum = with_place(sum, of_units(units[i]));
-        i += 1;
+    for place in units {
+        sum = with_place(sum, of_units(*place));
     }
     sum
 }

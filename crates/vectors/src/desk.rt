@@ -4,7 +4,7 @@ use monitor::state::State;
 
 // The held state, the lengths of the two stores, and what is lent at an hour: the length of the book, the hour, and the
 // length of the buffer. The bytes of the stores and of the book, and the work slices, stand beside it.
-#[derive(Drop)]
+#[derive(Clone, Copy)]
 pub struct Desk {
     pub state: State,
     pub tree_store: usize,

@@ -2,12 +2,10 @@
 
 // Places `from` up to `to` of a store, as far as there are any.
 pub fn fill_bytes(bytes: &mut [u8], from: usize, to: usize, byte: u8) {
-    let mut i = from;
-    while i < to {
+    for i in from..to {
         if bytes.len() <= i {
             return;
         }
         bytes[i] = byte;
-        i += 1;
     }
 }

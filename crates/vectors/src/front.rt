@@ -1,5 +1,5 @@
 // A call's length as far as there is room: no list of calls has a longer one.
-ghost use Rattle.io.specs.Counts.{IsPrefixLen};
+ghost use Rattle.program_text.specs.Front.{IsPrefixLen};
 
 // Of a work slice of ends.
 pub fn units_front(length: usize, room: &[u32]) -> usize

@@ -12,7 +12,7 @@ use program_text::store::{print_decimal, print_line_end, print_space, print_text
 use work_windows::question::question_at_hour;
 
 // What a question leaves: its reply, and a checksum of the buffer and the work slices.
-#[derive(Drop)]
+#[derive(Clone, Copy)]
 pub struct Left {
     pub reply: Reply,
     pub sum: u64,
@@ -100,22 +100,23 @@ fn question_fresh(desk: Desk, question: Question, tree: &[u8], sheet: &[u8], boo
 }
 
 // Prints a checksum of the state and both stores, and that of what was lent.
-fn print_sums(state: State, tree: &[u8], sheet: &[u8], lent: u64) {
+fn print_sums(rt: &impl Print, state: State, tree: &[u8], sheet: &[u8], lent: u64) {
     let held = row_sum(
         state.tree_len as u64,
         state.sheet_len as u64,
         bytes_sum(tree),
         bytes_sum(sheet),
     );
-    print_text(b"after ");
-    print_decimal(held);
-    print_space();
-    print_decimal(lent);
-    print_line_end();
+    print_text(rt, b"after ");
+    print_decimal(rt, held);
+    print_space(rt);
+    print_decimal(rt, lent);
+    print_line_end(rt);
 }
 
 // Questions a level at the desk's hour; the state after it.
 pub fn call_hour_question(
+    rt: &impl Print,
     desk: Desk,
     question: Question,
     tree: &[u8],
@@ -125,7 +126,7 @@ pub fn call_hour_question(
     let left = question_fresh(desk, question, tree, sheet, book);
     let reply = left.reply;
     let outcome = reply.outcome;
-    print_outcome(outcome);
-    print_sums(reply.state, tree, sheet, left.sum);
+    print_outcome(rt, outcome);
+    print_sums(rt, reply.state, tree, sheet, left.sum);
     reply.state
 }

@@ -15,9 +15,9 @@ mod run;
 mod set_sums;
 mod sets;
 
-fn main() {
+fn main(rt: HostRuntime) {
     let mut tree = [0u8; 7200];
     let mut sheet = [0u8; 17500];
     let mut book = [0u8; 2600];
-    run::run(&mut tree, &mut sheet, &mut book);
+    run::run(&rt, &mut tree, &mut sheet, &mut book);
 }

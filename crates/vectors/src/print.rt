@@ -6,30 +6,29 @@ use program_text::store::{
 };
 
 // A work slice by its length, its first and last place and its checksum.
-fn print_long_slice(length: usize, first: u64, last: u64, sum: u64) {
-    print_space();
-    print_number(length);
-    print_space();
-    print_decimal(first);
-    print_text(b"..");
-    print_decimal(last);
-    print_sum(sum);
+fn print_long_slice(rt: &impl Print, length: usize, first: u64, last: u64, sum: u64) {
+    print_space(rt);
+    print_number(rt, length);
+    print_space(rt);
+    print_decimal(rt, first);
+    print_text(rt, b"..");
+    print_decimal(rt, last);
+    print_sum(rt, sum);
 }
 
-fn print_all_units(units: &[u32]) {
-    let mut i = 0;
-    while i < units.len() {
-        print_space();
-        print_decimal(of_units(units[i]));
-        i += 1;
+fn print_all_units(rt: &impl Print, units: &[u32]) {
+    for place in units {
+        print_space(rt);
+        print_decimal(rt, of_units(*place));
     }
 }
 
 // A work slice of ends.
-pub fn print_units(units: &[u32]) {
+pub fn print_units(rt: &impl Print, units: &[u32]) {
     let count = units.len();
     if WHOLE < count {
         print_long_slice(
+            rt,
             count,
             of_units(units[0]),
             of_units(units[count - 1]),
@@ -37,24 +36,23 @@ pub fn print_units(units: &[u32]) {
         );
         return;
     }
-    print_all_units(units);
-    print_line_end();
+    print_all_units(rt, units);
+    print_line_end(rt);
 }
 
-fn print_all_marks(marks: &[u8]) {
-    let mut i = 0;
-    while i < marks.len() {
-        print_space();
-        print_decimal(of_byte(marks[i]));
-        i += 1;
+fn print_all_marks(rt: &impl Print, marks: &[u8]) {
+    for mark in marks {
+        print_space(rt);
+        print_decimal(rt, of_byte(*mark));
     }
 }
 
 // The work slice of marks.
-pub fn print_marks(marks: &[u8]) {
+pub fn print_marks(rt: &impl Print, marks: &[u8]) {
     let count = marks.len();
     if WHOLE < count {
         print_long_slice(
+            rt,
             count,
             of_byte(marks[0]),
             of_byte(marks[count - 1]),
@@ -62,6 +60,6 @@ pub fn print_marks(marks: &[u8]) {
         );
         return;
     }
-    print_all_marks(marks);
-    print_line_end();
+    print_all_marks(rt, marks);
+    print_line_end(rt);
 }

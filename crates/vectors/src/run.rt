@@ -28,37 +28,56 @@ fn after_setting(state: State, call: Call, tree: &mut [u8], sheet: &mut [u8]) ->
 }
 
 // The state after a hand-in, a drop or a setting.
-fn after_hand_in(state: State, call: Call, tree: &mut [u8], sheet: &mut [u8]) -> State {
+fn after_hand_in(
+    rt: &(impl Input + Print),
+    state: State,
+    call: Call,
+    tree: &mut [u8],
+    sheet: &mut [u8],
+) -> State {
     match call {
-        Call::Tree(length) => call_tree(state, length, tree, sheet),
-        Call::Sheet(length) => call_sheet(state, length, tree, sheet),
-        Call::Drop => call_drop(state, tree, sheet),
+        Call::Tree(length) => call_tree(rt, state, length, tree, sheet),
+        Call::Sheet(length) => call_sheet(rt, state, length, tree, sheet),
+        Call::Drop => call_drop(rt, state, tree, sheet),
         _ => after_setting(state, call, tree, sheet),
     }
 }
 
 // Answers a call on these stores and prints what there is after it: the state for the next call.
-fn after_call(state: State, call: Call, tree: &mut [u8], sheet: &mut [u8]) -> State {
+fn after_call(
+    rt: &(impl Input + Print),
+    state: State,
+    call: Call,
+    tree: &mut [u8],
+    sheet: &mut [u8],
+) -> State {
     match call {
         Call::Judge(k, n) => {
-            call_judge(state, k, n, tree, sheet);
+            call_judge(rt, state, k, n, tree, sheet);
             state
         }
-        Call::Question(question) => call_question(state, question, tree, sheet),
+        Call::Question(question) => call_question(rt, state, question, tree, sheet),
         Call::Count => {
-            call_count(state, tree, sheet);
+            call_count(rt, state, tree, sheet);
             state
         }
-        Call::CutSets(places) => call_cut_sets(state, places, tree, sheet),
-        _ => after_hand_in(state, call, tree, sheet),
+        Call::CutSets(places) => call_cut_sets(rt, state, places, tree, sheet),
+        _ => after_hand_in(rt, state, call, tree, sheet),
     }
 }
 
 // A call on the fronts that are the stores.
-fn on_stores(desk: Desk, call: Call, tree: &mut [u8], sheet: &mut [u8]) -> Desk {
+fn on_stores(
+    rt: &(impl Input + Print),
+    desk: Desk,
+    call: Call,
+    tree: &mut [u8],
+    sheet: &mut [u8],
+) -> Desk {
     let tree_store = front(desk.tree_store, tree);
     let sheet_store = front(desk.sheet_store, sheet);
     let state = after_call(
+        rt,
         desk.state,
         call,
         &mut tree[..tree_store],
@@ -68,11 +87,19 @@ fn on_stores(desk: Desk, call: Call, tree: &mut [u8], sheet: &mut [u8]) -> Desk 
 }
 
 // A question at the desk's hour, on the fronts that are the stores and the book.
-fn at_hour(desk: Desk, question: Question, tree: &[u8], sheet: &[u8], book: &[u8]) -> Desk {
+fn at_hour(
+    rt: &impl Print,
+    desk: Desk,
+    question: Question,
+    tree: &[u8],
+    sheet: &[u8],
+    book: &[u8],
+) -> Desk {
     let tree_store = front(desk.tree_store, tree);
     let sheet_store = front(desk.sheet_store, sheet);
     let windows = front(desk.book, book);
     let state = call_hour_question(
+        rt,
         desk,
         question,
         &tree[..tree_store],
@@ -83,43 +110,61 @@ fn at_hour(desk: Desk, question: Question, tree: &[u8], sheet: &[u8], book: &[u8
 }
 
 // The desk after a setting of what is lent at an hour, or a question at it.
-fn hour_after(desk: Desk, asked: AtHour, tree: &[u8], sheet: &[u8], book: &mut [u8]) -> Desk {
+fn hour_after(
+    rt: &(impl Input + Print),
+    desk: Desk,
+    asked: AtHour,
+    tree: &[u8],
+    sheet: &[u8],
+    book: &mut [u8],
+) -> Desk {
     match asked {
         AtHour::Book(length) => {
-            let got = read_file(length, book);
+            let got = read_file(rt, length, book);
             with_hour(desk, got, desk.hour, desk.buffer)
         }
         AtHour::Hour(hour, buffer) => with_hour(desk, desk.book, hour, buffer),
-        AtHour::Question(question) => at_hour(desk, question, tree, sheet, book),
+        AtHour::Question(question) => at_hour(rt, desk, question, tree, sheet, book),
     }
 }
 
 // The desk after a call that is not at an hour.
-fn stores_after(desk: Desk, call: Call, tree: &mut [u8], sheet: &mut [u8]) -> Desk {
+fn stores_after(
+    rt: &(impl Input + Print),
+    desk: Desk,
+    call: Call,
+    tree: &mut [u8],
+    sheet: &mut [u8],
+) -> Desk {
     match call {
         Call::Stores(one, two) => set_stores(desk, one, two, tree, sheet),
-        _ => on_stores(desk, call, tree, sheet),
+        _ => on_stores(rt, desk, call, tree, sheet),
     }
 }
 
 // The desk for the next call.
-fn desk_after(desk: Desk, call: Call, tree: &mut [u8], sheet: &mut [u8], book: &mut [u8]) -> Desk {
+fn desk_after(
+    rt: &(impl Input + Print),
+    desk: Desk,
+    call: Call,
+    tree: &mut [u8],
+    sheet: &mut [u8],
+    book: &mut [u8],
+) -> Desk {
     if let Call::AtHour(asked) = call {
-        return hour_after(desk, asked, tree, sheet, book);
+        return hour_after(rt, desk, asked, tree, sheet, book);
     }
-    stores_after(desk, call, tree, sheet)
+    stores_after(rt, desk, call, tree, sheet)
 }
 
 // A proved loop has to end, so there is a most number of calls.
-pub fn run(tree: &mut [u8], sheet: &mut [u8], book: &mut [u8]) {
+pub fn run(rt: &(impl Input + Print), tree: &mut [u8], sheet: &mut [u8], book: &mut [u8]) {
     let mut desk = empty_desk();
-    let mut left: u64 = 100000;
-    while left > 0 {
-        let call = read_call();
+    for _ in 0..100000u64 {
+        let call = read_call(rt);
         if let Call::End = call {
             return;
         }
-        desk = desk_after(desk, call, tree, sheet, book);
-        left -= 1;
+        desk = desk_after(rt, desk, call, tree, sheet, book);
     }
 }

@@ -34,10 +34,8 @@ fn with_left(left: u64, i: usize, count: u64, place: u64) -> u64 {
 // The sum of the sets below the count, or of their squares.
 pub fn sets_sum(square: bool, count: u64, sets: &[u64]) -> u64 {
     let mut sum = 0;
-    let mut i = 0;
-    while i < sets.len() {
+    for i in 0..sets.len() {
         sum = with_term(sum, i, count, term(square, sets[i]));
-        i += 1;
     }
     sum
 }
@@ -45,10 +43,8 @@ pub fn sets_sum(square: bool, count: u64, sets: &[u64]) -> u64 {
 // How many places from the count on still hold the fill.
 pub fn places_left(count: u64, sets: &[u64]) -> u64 {
     let mut left = 0;
-    let mut i = 0;
-    while i < sets.len() {
+    for i in 0..sets.len() {
         left = with_left(left, i, count, sets[i]);
-        i += 1;
     }
     left
 }

@@ -11,58 +11,71 @@ use program_text::store::{
 };
 
 // Prints the count or the refusal; the count, 0 where refused.
-fn print_counted(outcome: Outcome) -> u64 {
+fn print_counted(rt: &impl Print, outcome: Outcome) -> u64 {
     match outcome {
         Outcome::Counted(count) => {
-            print_text(b"cut sets ");
-            print_decimal(count);
-            print_line_end();
+            print_text(rt, b"cut sets ");
+            print_decimal(rt, count);
+            print_line_end(rt);
             count
         }
         Outcome::Refused(refusal) => {
-            print_refusal(refusal);
+            print_refusal(rt, refusal);
             0
         }
     }
 }
 
 // Counts the sets. The state is not handed back: it is the one that went in.
-pub fn call_count(state: State, tree: &[u8], sheet: &[u8]) {
+pub fn call_count(rt: &impl Print, state: State, tree: &[u8], sheet: &[u8]) {
     let outcome = count_sets(state, tree);
-    print_counted(outcome);
-    print_after(state, tree, sheet);
+    print_counted(rt, outcome);
+    print_after(rt, state, tree, sheet);
 }
 
-fn print_sets(count: u64, sets: &[u64]) {
-    print_text(b"sets ");
-    print_number(sets.len());
-    print_space();
-    print_decimal(sets_sum(false, count, sets));
-    print_space();
-    print_decimal(sets_sum(true, count, sets));
-    print_text(b" left ");
-    print_decimal(places_left(count, sets));
-    print_line_end();
+fn print_sets(rt: &impl Print, count: u64, sets: &[u64]) {
+    print_text(rt, b"sets ");
+    print_number(rt, sets.len());
+    print_space(rt);
+    print_decimal(rt, sets_sum(false, count, sets));
+    print_space(rt);
+    print_decimal(rt, sets_sum(true, count, sets));
+    print_text(rt, b" left ");
+    print_decimal(rt, places_left(count, sets));
+    print_line_end(rt);
 }
 
 // Lists the sets in this slice; the state after it.
-fn list_with(state: State, tree: &[u8], sheet: &[u8], sets: &mut [u64]) -> State {
+fn list_with(rt: &impl Print, state: State, tree: &[u8], sheet: &[u8], sets: &mut [u64]) -> State {
     let reply = list_sets(state, tree, sets);
     let outcome = reply.outcome;
-    let count = print_counted(outcome);
-    print_after(reply.state, tree, sheet);
-    print_sets(count, sets);
+    let count = print_counted(rt, outcome);
+    print_after(rt, reply.state, tree, sheet);
+    print_sets(rt, count, sets);
     reply.state
 }
 
 // Lists the sets in the front of a slice.
-fn list_within(state: State, places: usize, tree: &[u8], sheet: &[u8], sets: &mut [u64]) -> State {
+fn list_within(
+    rt: &impl Print,
+    state: State,
+    places: usize,
+    tree: &[u8],
+    sheet: &[u8],
+    sets: &mut [u64],
+) -> State {
     let lent = sets_front(places, sets);
-    list_with(state, tree, sheet, &mut sets[..lent])
+    list_with(rt, state, tree, sheet, &mut sets[..lent])
 }
 
 // Lists the sets in a fresh slice, filled so that what a listing leaves alone is seen.
-pub fn call_cut_sets(state: State, places: usize, tree: &[u8], sheet: &[u8]) -> State {
+pub fn call_cut_sets(
+    rt: &impl Print,
+    state: State,
+    places: usize,
+    tree: &[u8],
+    sheet: &[u8],
+) -> State {
     let mut sets = [FILL; 4096];
-    list_within(state, places, tree, sheet, &mut sets)
+    list_within(rt, state, places, tree, sheet, &mut sets)
 }
