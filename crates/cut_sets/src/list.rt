@@ -1,7 +1,7 @@
 // Listing the minimal cut sets of the held tree, each once and no other set, as 64-bit numbers.
 ghost use Rattle.std.specs.Prelude.{◌≡◌, length};
 ghost use Rattle.monitor.specs.Standing.{held_tree};
-ghost use Rattle.monitor.specs.Question.{root as root-of};
+ghost use Rattle.monitor.specs.Question.{root as root_of};
 ghost use Rattle.cut_sets.specs.Judged.{outcome_by, reply_of, set_count, short_list};
 ghost use Rattle.cut_sets.specs.Listed.{SetsLeft};
 ghost use Rattle.node_sets.specs.Requirements.{Small};
@@ -25,7 +25,7 @@ pub struct Reply {
 // Counts the sets of the root, and writes them where the slice has a place for each: refusal 27.
 fn listed(tree: &[u8], root: usize, sets: &mut [u64]) -> Outcome
     requires small { Small tree.now root }
-    requires root_value { root ≡ root-of tree.now }
+    requires root_value { root ≡ root_of tree.now }
     ensures value { result ≡ outcome_by (short_list (set_count tree.now) (length sets.old))
         (set_count tree.now) }
     ensures sets_left { SetsLeft result tree.now sets.old sets.new }
