@@ -25,7 +25,7 @@ pub fn put_word(word: &[u8], after: u8, draft: &mut [u8], place: usize) -> usize
     requires { Room (ended word.now after) place draft.old }
     ensures { Put (ended word.now after) place draft.old draft.new result }
 {
-    let length = bytes::copy(word, &mut draft[place..]);
+    let length = byte_copy::copy(word, &mut draft[place..]);
     let end = place + length;
     draft[end] = after;
     end + 1

@@ -105,6 +105,6 @@ pub fn print_levels(input: &[u8], buffer: &mut [u8]) -> Printed
     if buffer.len() < length {
         return Printed::TooShort(length);
     }
-    bytes::copy(&draft[..length], buffer);
+    byte_copy::copy(&draft[..length], buffer);
     Printed::Complete(length)
 }
