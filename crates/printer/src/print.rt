@@ -21,7 +21,7 @@ use monitor::state::State;
 pub const MOST_TEXT: usize = 37119;
 
 // The text's length: the text is complete in the buffer, or the buffer is too short for it and unchanged.
-#[derive(Drop)]
+#[derive(Clone, Copy)]
 pub enum Printed {
     Complete(usize),
     TooShort(usize),
