@@ -2,7 +2,7 @@
 use Prim.Native.Nat.{ℕ, suc, ◌≤◌}
 use native.Mathlib.Omega.{arith}
 use mathlib.Core.Path.{◌≡◌, refl, sym, ap, ap₂, ◌∙◌}
-use mathlib.Core.List.{List, ◌++◌}
+use mathlib.Core.List.{List, [], ◌∷◌, ◌++◌}
 use lib.ListN.{length, take, drop, replicate, length-append, length-replicate}
 use lib.Seq.{take-length, take-append_seam}
 use borrow.Author.Tests.{le-leb}
@@ -15,7 +15,8 @@ use Rattle.tree_file.specs.declared.judgement.Counts.{Counts}
 use Rattle.opinion_sheet.specs.Judged.{fault_of as sheet_fault}
 use Rattle.monitor.specs.HandIn.{hand_in_fault, answer_by, store_by, handed_answer, handed_store, holding_tree}
 use Rattle.monitor.specs.HandIn.{holding_sheet, tree_answer, tree_store, sheet_answer, sheet_store, nothing_held}
-use Rattle.monitor.specs.Standing.{changed, held_tree, held_sheet, level_rules, standing_of}
+use Rattle.monitor.specs.Standing.{changed, held_tree, held_sheet, level_fault, no_tree, no_sheet, tree_changed}
+use Rattle.monitor.specs.Standing.{sheet_changed, other_tree, level_rules, standing_of}
 use Rattle.monitor.specs.declared.state.State.{State}
 use Rattle.monitor.specs.declared.held.Standing.{Standing}
 use Rattle.monitor.specs.declared.held.Standing.TheVariants as standing
@@ -153,7 +154,13 @@ module _ (state : State) (held_bytes sheet : List ℕ) (n : ℕ) (l : length she
   sheet_front : (rest : List ℕ) → held_text (holding_sheet (length sheet) state) held_bytes (sheet ++ rest) n
       ≡ held_text (holding_sheet (length sheet) state) held_bytes sheet n
   unfolding held_text
-  sheet_front rest = rw (front_held sheet rest, front_changed sheet rest 1 sheet_fault)
+  sheet_front rest =
+      let held = holding_sheet (length sheet) state in
+      let tree = held_tree held held_bytes in
+      ap₂ (λ (bytes : List ℕ) (f : FirstFault).
+      text_by (first_of (level_fault n n ∷ no_tree held ∷ no_sheet held ∷ tree_changed held held_bytes ∷ f
+      ∷ other_tree tree bytes ∷ [])) (levels_text tree bytes n))
+      (front_held sheet rest) (front_changed sheet rest 1 sheet_fault)
 
   -- accepted
   pub sheet_held : (store : List ℕ) → store ≡ sheet_store sheet (replicate most_sheet 0) → answer.verdict ≡ Accepted
@@ -199,7 +206,13 @@ module _ (tree sheet : List ℕ) (n : ℕ) (l : length tree ≤ most_tree) (answ
   tree_front : (rest : List ℕ)
       → sheet_text tree_held_state (tree ++ rest) sheet n ≡ sheet_text tree_held_state tree sheet n
   unfolding sheet_text held_text
-  tree_front rest = rw (front_held tree rest, front_changed tree rest 0 tree_fault)
+  tree_front rest =
+      let held = holding_sheet (length sheet) tree_held_state in
+      let bytes = held_sheet held sheet in
+      ap₂ (λ (named : List ℕ) (f : FirstFault).
+      text_by (sheet_fault sheet) (text_by (first_of (level_fault n n ∷ no_tree held ∷ no_sheet held ∷ f
+      ∷ sheet_changed held sheet ∷ other_tree named bytes ∷ [])) (levels_text named bytes n)))
+      (front_held tree rest) (front_changed tree rest 0 tree_fault)
 
   -- accepted
   pub tree_held : (store : List ℕ) → store ≡ tree_store tree (replicate most_tree 0) → answer.verdict ≡ Accepted
