@@ -150,7 +150,7 @@ module _ (sheet : List ℕ) (events : ℕ) (buffer : List ℕ) (asked : SheetAsk
       → (after : List ℕ) → after ≡ with_parts 26 17 (mirrored_entry sheet) events copied
       → after ≡ mirrored_sheet sheet ++ drop (length sheet) buffer
   unfolding mirrored_sheet
-  sheet_written copied copy after e =
+  sheet_written copied copy written e =
       let rest = drop (length sheet) buffer in
       e
       ∙ ap (with_parts 26 17 (mirrored_entry sheet) events)

@@ -25,8 +25,8 @@ write_sheet-requires c =
 pub returns-then-tree_len-tree_buffer : goal.returns-then-tree_len-tree_buffer
 returns-then-tree_len-tree_buffer c =
     let all =
-        mirrored_all _ _ _ _ _ _ c.judge_pair-standing.ensures _ c.in-Ready.is c.if-tree_len-tree_buffer.true _
-        c.write_tree.ensures _ c.write_sheet.ensures in
+    mirrored_all _ _ _ _ _ _ c.judge_pair-standing.ensures _ c.in-Ready.is c.if-tree_len-tree_buffer.true _
+    c.write_tree.ensures _ c.write_sheet.ensures in
     record {
       value = all.0;
       tree_buffer_after = all.1.0;
@@ -47,7 +47,7 @@ returns-in-Refused c =
 pub returns-else-tree_len-tree_buffer : goal.returns-else-tree_len-tree_buffer
 returns-else-tree_len-tree_buffer c =
     let all =
-        refused_by_room _ _ _ _ _ _ c.judge_pair-standing.ensures _ c.in-Ready.is c.if-tree_len-tree_buffer.false in
+    refused_by_room _ _ _ _ _ _ c.judge_pair-standing.ensures _ c.in-Ready.is c.if-tree_len-tree_buffer.false in
     record {
       value = all.0;
       tree_buffer_after = all.1.0;
