@@ -1,8 +1,12 @@
-# A program, proved and built where its sources changed. What has changed is rt's to say: it goes by content.
+# A program, proved and built where its sources changed, and right on its stored case. What has changed is rt's to say: it
+# goes by content.
 import collections
 import contextlib
 import fcntl
+import filecmp
+import hashlib
 import os
+import re
 import shutil
 import subprocess
 import tempfile
@@ -17,7 +21,12 @@ TOLD_AFTER = 1.5
 # How many of rt's last lines are shown where it fails.
 LAST_LINES = 12
 
-UNCHANGED = "(unchanged since it was last proved)"
+# What rt says where nothing has to be proved, and what it says of its own work.
+UNCHANGED = re.compile(r"rt: (nothing has changed since the last proved build|running )")
+OWN_WORK = re.compile(r"rt: (chose |note|[a-z_]+: begins with )")
+# The last two lines of a crate's check.
+CHECKED = re.compile(r"crate ([a-z_]+): modules ")
+PROVED = "logic=proved "
 
 # A program: its crate, its name in a sentence, and what does not come where it is not built.
 Program = collections.namedtuple("Program", "crate title nothing")
@@ -34,16 +43,33 @@ class Desk:
     def __init__(self, home, program):
         self.home = home
         self.crate, self.title, self.nothing = program
-        self.check = f"rt check {self.crate}"
+        self.crates = crates_of(os.path.join(home, "crates.txt"), self.crate)
+        self.folder = os.path.join(home, "crates", self.crate)
+        self.run = f"rt run in crates/{self.crate}"
+        self.program = os.path.join(self.folder, "out", self.crate)
         self.target = os.path.join(home, "target")
-        self.program = os.path.join(self.target, "bin", self.crate)
-        # rt leaves it once the program is proved, built, and right on its stored case.
+        # The checksum of the program that was right on its stored case.
         self.stamp = os.path.join(self.target, "stamp", self.crate)
         self.lock = os.path.join(self.target, "nekbrod.lock")
         self.log = os.path.join(self.target, "nekbrod.log")
 
     def is_built(self):
         return os.path.isfile(self.program) and os.access(self.program, os.X_OK)
+
+    def checksum(self):
+        with open(self.program, "rb") as file:
+            return hashlib.sha256(file.read()).hexdigest()
+
+    def was_right(self):
+        with contextlib.suppress(OSError), open(self.stamp, encoding="ascii", errors="replace") as file:
+            return file.read() == self.checksum()
+        return False
+
+    def note_right(self):
+        if not self.was_right():
+            os.makedirs(os.path.dirname(self.stamp), exist_ok=True)
+            with open(self.stamp, "w", encoding="ascii") as file:
+                file.write(self.checksum())
 
 
 @contextlib.contextmanager
@@ -71,17 +97,21 @@ def as_it_is(desk, reason):
     """The program that is there, with a line that nobody asked whether it is still that of its sources."""
     if not desk.is_built():
         raise Stop(3, f"{desk.title} is not built, and {reason}")
-    if not os.path.exists(desk.stamp):
+    if not desk.was_right():
         raise Stop(3, f"{desk.title} was not seen to be right when it was built, and {reason}")
     say(f"{reason}; {desk.title} is run as it is, and may be older than its sources")
     return desk.program
 
 
 def check_writable(desk):
-    """rt writes in all these folders."""
+    """rt writes in each crate's folder out/, and this command in target/."""
     os.makedirs(desk.target, exist_ok=True)
-    for name in ("", "bin", "log", "obj", "rlib", "stamp"):
-        folder = os.path.join(desk.target, name).rstrip("/")
+    folders = [desk.target, os.path.dirname(desk.stamp)]
+    for crate in desk.crates:
+        folder = os.path.join(desk.home, "crates", crate)
+        out = os.path.join(folder, "out")
+        folders.append(out if os.path.exists(out) else folder)
+    for folder in folders:
         if os.path.exists(folder) and not os.access(folder, os.W_OK | os.X_OK):
             raise PermissionError(13, "Permission denied", folder)
 
@@ -116,33 +146,35 @@ def is_taken(lock):
 
 
 def prove(desk, rt, signals, lock):
-    first = not desk.is_built()
-    if first:
-        # rt goes by the stamp alone, and would not miss the program.
-        with contextlib.suppress(FileNotFoundError):
-            os.remove(desk.stamp)
-    report = Report(desk, first)
+    report = Report(desk, not desk.is_built())
+    stored = os.path.join(desk.folder, "stdout")
     try:
-        with open(desk.log, "wb") as log, temporary_folder() as folder, Child(
-                signals, [rt, "check", desk.crate], kept=(lock,), cwd=desk.home, env={**os.environ, "TMPDIR": folder},
-                stdin=subprocess.DEVNULL, stderr=subprocess.STDOUT) as child:
-            piece = None
-            while piece != b"":
-                piece = child.read(0.5)
-                log.write(piece or b"")
-                report.take(piece or b"")
-            status = child.status()
+        with open(desk.log, "wb") as log, temporary_folder() as folder:
+            wrote = os.path.join(folder, "stdout")
+            with open(os.path.join(desk.folder, "stdin"), "rb") as given, open(wrote, "wb") as output, Child(
+                    signals, [rt, "run"], kept=(lock,), heard="stderr", cwd=desk.folder,
+                    env={**os.environ, "TMPDIR": folder}, stdin=given, stdout=output) as child:
+                piece = None
+                while piece != b"":
+                    piece = child.read(0.5)
+                    log.write(piece or b"")
+                    report.take(piece or b"")
+                status = child.status()
+            is_right = status == 0 and filecmp.cmp(wrote, stored, shallow=False)
     except OSError as error:
-        raise Stop(3, f"'{desk.check}' could not be run: {error}") from None
+        raise Stop(3, f"'{desk.run}' could not be run: {error}") from None
     finally:
         clear()
     if status != 0:
-        say(f"'{desk.check}' failed: it {status_in_words(status)}. Its last lines:")
+        say(f"'{desk.run}' failed: it {status_in_words(status)}. Its last lines:")
         for line in report.last:
             say(f"  {line}")
         raise Stop(3, f"{desk.nothing}; {desk.log} has all that rt said")
     if not desk.is_built():
-        raise Stop(3, f"'{desk.check}' left no program at {desk.program}; {desk.log} has all that rt said")
+        raise Stop(3, f"'{desk.run}' left no program at {desk.program}; {desk.log} has all that rt said")
+    if not is_right:
+        raise Stop(3, f"{desk.title} does not print {stored} for the stdin beside it, so {desk.nothing}")
+    desk.note_right()
 
 
 @contextlib.contextmanager
@@ -150,24 +182,18 @@ def temporary_folder():
     """A place for rt's temporary files: a prover that is ended leaves up to some hundred megabytes of them."""
     outer = tempfile.mkdtemp(prefix="nekbrod-")
     try:
-        # A program that rt runs as nobody must reach its files.
-        os.chmod(outer, 0o711)
-        inner = os.path.join(outer, "tmp")
-        os.mkdir(inner)
-        os.chmod(inner, 0o1777)
-        yield inner
+        yield outer
     finally:
         shutil.rmtree(outer, ignore_errors=True)
 
 
 class Report:
-    """Passes rt's own lines on as they come, and tells how far it is."""
+    """Says what is proved as it comes, and how far it is."""
 
     def __init__(self, desk, first):
         self.began = time.monotonic()
-        self.crate, self.title = desk.crate, desk.title
-        self.crates = crates_of(os.path.join(desk.home, "crates.txt"), desk.crate)
-        self.stamps = os.path.dirname(desk.stamp)
+        self.crate, self.title, self.crates = desk.crate, desk.title, desk.crates
+        self.checked = None
         self.proved = set()
         self.rest = b""
         self.last = collections.deque(maxlen=LAST_LINES)
@@ -183,28 +209,26 @@ class Report:
         *lines, self.rest = (self.rest + piece).split(b"\n")
         for line in lines:
             self.take_line(line.decode("utf-8", "replace"))
-        # rt removes the stamp of a crate when it begins to prove it.
-        if not all(os.path.exists(os.path.join(self.stamps, name)) for name in self.crates):
-            self.tell_change()
         if self.told:
             waiting = [name for name in self.crates if name not in self.proved] or [self.crate]
             seconds = time.monotonic() - self.began
             show_passing(f"{waiting[0]}, {len(self.proved)} of {len(self.crates)} crates proved, {seconds:.0f} s")
 
-    def tell_change(self):
-        if not self.told:
-            self.tell(f"proving what has changed since {self.title} was built")
-
     def take_line(self, line):
-        words = line.split()
-        if words[:1] == ["rt:"] and words[2:3] == ["proved"]:
-            self.proved.add(words[1])
-        if line.endswith(UNCHANGED) or ": its dependency " in line:
+        if UNCHANGED.match(line) or OWN_WORK.match(line):
             return
         self.last.append(line)
-        if line.startswith("rt: ") and not (line.startswith("rt: ok") and not self.told):
-            self.tell_change()
+        if line.startswith("rt: "):
             say(line[len("rt: "):])
+            return
+        if not self.told:
+            self.tell(f"proving what has changed since {self.title} was built")
+        matched = CHECKED.match(line)
+        if matched:
+            self.checked = matched.group(1)
+        elif line.startswith(PROVED) and self.checked in self.crates:
+            self.proved.add(self.checked)
+            say(f"{self.checked} proved")
 
 
 def crates_of(name, program):

@@ -51,32 +51,33 @@ class Signals:
 
 
 class Child:
-    """A program with its output; at the end of a `with` nothing of its group is left."""
+    """A program with its output, or its errors; at the end of a `with` nothing of its group is left."""
 
-    def __init__(self, signals, words, kept=(), **more):
+    def __init__(self, signals, words, kept=(), heard="stdout", **more):
         self.signals = signals
         # Whatever the program starts holds this pipe's other end, so that it closes with the last of them.
         self.life, held = os.pipe()
         try:
             self.process = subprocess.Popen(
-                words, stdout=subprocess.PIPE, start_new_session=True, pass_fds=(held, *kept), **more)
+                words, start_new_session=True, pass_fds=(held, *kept), **{heard: subprocess.PIPE}, **more)
         except OSError:
             os.close(self.life)
             raise
         finally:
             os.close(held)
+        self.output = getattr(self.process, heard)
 
     def __enter__(self):
         return self
 
     def __exit__(self, *_):
         self.end()
-        self.process.stdout.close()
+        self.output.close()
         os.close(self.life)
 
     def read(self, seconds=None):
-        """Some of its output, b'' at its end, None where nothing came in so many seconds."""
-        output = self.process.stdout.fileno()
+        """Some of what is heard, b'' at its end, None where nothing came in so many seconds."""
+        output = self.output.fileno()
         return os.read(output, 65536) if self.signals.wait([output], seconds) else None
 
     def status(self):

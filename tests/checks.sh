@@ -8,14 +8,14 @@ root=$(CDPATH='' cd "$(dirname "$0")/.." && pwd -P) || exit 2
 examples=$root/examples
 road_tree=$examples/road_trip/tree.ftf
 road_sheet=$examples/road_trip/sheet.fts
-levels=$root/target/bin/levels
+levels=$root/crates/levels/out/levels
 reference=$root/reference/target/release/reference
 
 # Ends the test where what it runs is not built.
 needs() { # PROGRAM COMMAND
     [ -x "$1" ] || { echo "$1 is not built: $2"; exit 2; }
 }
-needs "$levels" "rt check levels"
+needs "$levels" tests/build.sh
 needs "$reference" "cargo build --release --offline --manifest-path reference/Cargo.toml"
 
 work=$(mktemp -d) || exit 2

@@ -391,7 +391,7 @@ def hours(work, copy):
         for hour in open_hours:
             text = f"tree 7 events 2 levels 1\n1 {end} = {end} =\n0 {end} = {end} =\n"
             printed(f"hour {hour}", ask(hour=hour), text.encode())
-    hold("hours: rt is asked", copy.calls()[-1:] == ["check hour_levels"])
+    hold("hours: rt is asked", copy.calls()[-1:] == ["run in hour_levels"])
     plain = copy.run(*names[:2], "1").out
     printed("the largest book, none of it open", ask(window(1, 5, 6) * 256, hour=6), plain)
     for name, words in (("--hour first", ["--hour", "15", "--windows", PLAN]),
@@ -519,7 +519,7 @@ def mirrors(work, copy):
     outs = Outs(copy, os.path.join(work, "mirrors/new"))
     pair = [os.path.join(work, "mirrors", name) for name in ("a tree", "a sheet")]
     both_written("a mirror", outs.run(), outs.names, mirror_of_road())
-    hold("a mirror: rt is asked", copy.calls()[-1:] == ["check mirror_files"])
+    hold("a mirror: rt is asked", copy.calls()[-1:] == ["run in mirror_files"])
     outs.failed("a mirror again", outs.run(), 2, "out tree exists and is not overwritten", outs.left())
     for name, *files in MIRRORED:
         outs.clear()
@@ -998,7 +998,7 @@ def cut_sets(work, copy):
         hold(f"{count} sets: the header alone", ran.out == f"tree 7 events {events} cut sets {count}\n".encode(), ran)
         hold(f"{count} sets: said", ran.errors == f"nekbrod: no set is listed: the tree has {count} minimal cut sets, "
              "and at most 100000 are listed\n", ran)
-    hold("cut sets: rt is asked", copy.calls()[-1:] == ["check cut_set_lines"])
+    hold("cut sets: rt is asked", copy.calls()[-1:] == ["run in cut_set_lines"])
     refused_sets(name, ask)
     sets_unwritten(copy, ask)
 
@@ -1057,15 +1057,15 @@ def building(copy):
     ran = copy.run()
     printed("a first run", ran, FUEL_LEVELS)
     hold("a first run: what it does", "proving and building" in ran.errors, ran)
-    hold("a first run: rt's lines", "nekbrod: printer proved (1 s)\n" in ran.errors, ran)
+    hold("a first run: rt's lines", "nekbrod: printer proved\n" in ran.errors, ran)
     hold("a first run: not the prover's lines", "some::function" not in ran.errors, ran)
     hold("a first run: nothing of what is unchanged", "unchanged" not in ran.errors, ran)
     hold("a first run: no passing line", "\r" not in ran.errors, ran)
-    hold("a first run: the call", copy.calls() == ["check levels"], ran)
+    hold("a first run: the call", copy.calls() == ["run in levels"], ran)
     ran = copy.run(*ROAD, "2")
     printed("a second run", ran, ROAD_LEVELS)
     hold("a second run: no errors", ran.errors == "", ran)
-    hold("a second run: rt is asked", copy.calls() == ["check levels"] * 2, ran)
+    hold("a second run: rt is asked", copy.calls() == ["run in levels"] * 2, ran)
     os.remove(copy.program)
     ran = copy.run(*ROAD, "2")
     printed("a program that was removed", ran, ROAD_LEVELS)
@@ -1094,13 +1094,13 @@ def building_sets(copy):
     ran = copy.run("cut-sets", "--numbers", ROAD[0])
     hold("a first run of cut-sets: its text", ran.status == 0 and ran.out.startswith(b"tree 1 events 3 cut sets "), ran)
     hold("a first run of cut-sets: what it does", "proving and building the cut set printer" in ran.errors, ran)
-    hold("a first run of cut-sets: the call", copy.calls() == ["check cut_set_lines"], ran)
+    hold("a first run of cut-sets: the call", copy.calls() == ["run in cut_set_lines"], ran)
     sets_printed("a second run of cut-sets", copy.run("cut-sets", "--numbers", ROAD[0]), read(ROAD[0]))
-    os.remove(os.path.join(copy.target, "stamp/cut_set_lines"))
+    os.remove(copy.built("cut_set_lines") + ".stamp")
     copy.stand_in(status=1)
     ran = copy.run("cut-sets", "--numbers", ROAD[0])
     hold("cut-sets, a build that fails: status", ran.status == 3 and ran.out == b"", ran)
-    hold("cut-sets, a build that fails: said", "'rt check cut_set_lines' failed: it ended with status 1" in ran.errors
+    hold("cut-sets, a build that fails: said", "'rt run in crates/cut_set_lines' failed: it ended with status 1" in ran.errors
          and "no cut set is printed; " in ran.lines[-1], ran)
     copy.stand_in()
     printed("the levels after it", copy.run(*ROAD, "2"), b"tree of another source\n")
@@ -1113,15 +1113,15 @@ def building_hours(copy):
     ran = copy.run(*words)
     printed("a first run for an hour", ran, text)
     hold("a first run for an hour: what it does", "proving and building the hour printer" in ran.errors, ran)
-    hold("a first run for an hour: the call", copy.calls() == ["check hour_levels"], ran)
+    hold("a first run for an hour: the call", copy.calls() == ["run in hour_levels"], ran)
     ran = copy.run(*words)
     printed("a second run for an hour", ran, text)
     hold("a second run for an hour: no errors", ran.errors == "", ran)
-    os.remove(os.path.join(copy.target, "stamp/hour_levels"))
+    os.remove(copy.built("hour_levels") + ".stamp")
     copy.stand_in(status=1)
     ran = copy.run(*words)
     hold("an hour, a build that fails: status", ran.status == 3 and ran.out == b"", ran)
-    hold("an hour, a build that fails: said", "'rt check hour_levels' failed: it ended with status 1" in ran.errors
+    hold("an hour, a build that fails: said", "'rt run in crates/hour_levels' failed: it ended with status 1" in ran.errors
          and "no level is printed; " in ran.lines[-1], ran)
 
 
@@ -1131,13 +1131,13 @@ def building_mirrors(copy):
     ran = outs.run()
     both_written("a first mirror", last_of(ran, 0), outs.names, mirror_of_road())
     hold("a first mirror: what it does", "proving and building the mirror program" in ran.errors, ran)
-    hold("a first mirror: the call", copy.calls() == ["check mirror_files"], ran)
-    os.remove(os.path.join(copy.target, "stamp/mirror_files"))
+    hold("a first mirror: the call", copy.calls() == ["run in mirror_files"], ran)
+    os.remove(copy.built("mirror_files") + ".stamp")
     outs.clear()
     copy.stand_in(status=1)
     ran = outs.run()
     outs.failed("a mirror, a build that fails", ran, 3, "no file is written; .*nekbrod.log has all that rt said$")
-    said = "'rt check mirror_files' failed: it ended with status 1"
+    said = "'rt run in crates/mirror_files' failed: it ended with status 1"
     hold("a mirror, a build that fails: said", said in ran.errors, ran)
 
 
@@ -1155,7 +1155,7 @@ def without_rt(copy):
 def failing_builds(copy):
     for name, words in (
             ("a proof that fails", {"before": "echo a line that says why", "status": 1}),
-            ("a stored case that fails", {"after": 'cp "$source" target/bin/levels', "status": 1}),
+            ("a program that fails", {"after": "cp src/main.rt out/levels", "status": 1}),
             ("a toolchain that fails", {"before": "echo 'crates/x.rt:3:4: error' >&2", "status": 2})):
         copy.empty()
         copy.stand_in(**words)
@@ -1164,24 +1164,31 @@ def failing_builds(copy):
             name_here = f"{name}, {turn}"
             hold(f"{name_here}: status", ran.status == 3, ran)
             hold(f"{name_here}: nothing printed", ran.out == b"", ran)
-            said = f"'rt check levels' failed: it ended with status {words['status']}. Its last lines:"
+            said = f"'rt run in crates/levels' failed: it ended with status {words['status']}. Its last lines:"
             hold(f"{name_here}: said", said in ran.errors, ran)
             hold(f"{name_here}: rt's last lines", "\nnekbrod:   fn some::function: proved\n" in ran.errors, ran)
             hold(f"{name_here}: the log's name", ran.lines[-1].endswith("target/nekbrod.log has all that rt said"), ran)
             log = read(copy.target + "/nekbrod.log").decode()
-            whole = log.startswith("rt: theory") and log.endswith("rt: levels proved (2 s)\n")
+            whole = log.startswith("rt: chose --jobs 2 for theory\n") and log.endswith("\nlogic=proved functions=1 sum=0\n")
             hold(f"{name_here}: the log", whole, ran)
             if "before" in words:
                 why = words["before"].split("echo ")[1].split(" >&2")[0].strip("'")
                 hold(f"{name_here}: why", f"nekbrod:   {why}\n" in ran.errors and why in log, ran)
     copy.empty()
     copy.stand_in(before="i=0; while [ $i -lt 40 ]; do echo line $i; i=$((i + 1)); done", status=1,
-                  after="echo 'rt: levels NOT PROVED: its dependency printer is not proved'")
+                  after="echo 'rt: chose --jobs 2 for levels'")
     ran = copy.run(*ROAD, "2")
-    hold("a long failure: its last twelve lines", "  line 39" in ran.errors and "  line 31" in ran.errors
-         and "  line 30" not in ran.errors, ran)
-    hold("a long failure: not what only rests on it", "its dependency" not in ran.errors, ran)
-    copy.stand_in(leaves="rm -f target/bin/levels")
+    hold("a long failure: its last twelve lines", "  line 39" in ran.errors and "  line 33" in ran.errors
+         and "  line 32" not in ran.errors, ran)
+    hold("a long failure: not how rt goes about it", "chose" not in ran.errors, ran)
+    copy.stand_in(wrote="echo another text")
+    for turn in ("first", "again"):
+        ran = copy.run(*ROAD, "2")
+        hold(f"a stored case that fails, {turn}: status", ran.status == 3 and ran.out == b"", ran)
+        hold(f"a stored case that fails, {turn}: said", re.search("the level printer does not print .*crates/levels/stdout "
+             "for the stdin beside it, so no level is printed", ran.errors), ran)
+    copy.empty()
+    copy.stand_in(leaves="rm -f out/levels")
     ran = copy.run(*ROAD, "2")
     hold("rt leaves no program: status", ran.status == 3, ran)
     hold("rt leaves no program: said", "left no program" in ran.errors, ran)
@@ -1213,24 +1220,26 @@ def unwritable(copy):
         skipped.append("a folder without the right to write: root writes in every folder, and nobody has no python3")
         return
     names = [write(os.path.join(copy.home, os.path.basename(name)), read(name)) for name in ROAD]
-    os.makedirs(copy.target + "/log")
-    for folder in ("", "/log", "/stamp"):
-        for inner in ("", "/bin", "/log", "/stamp", "/nekbrod.lock"):
+    for folder in ("target", "target/stamp", "crates/levels/out"):
+        for inner in ("target", "target/stamp", "target/nekbrod.lock", "crates/levels/out"):
             if IS_ROOT:
-                os.chown(copy.target + inner, NOBODY, NOBODY)
-        os.chmod(copy.target + folder, 0o555)
+                os.chown(os.path.join(copy.home, inner), NOBODY, NOBODY)
+        os.chmod(os.path.join(copy.home, folder), 0o555)
         ran = copy.run(*names, "2", cwd="/", **SHUT_OUT)
-        os.chmod(copy.target + folder, 0o755)
-        printed(f"target{folder} without the right to write", ran, ROAD_LEVELS)
-        said = re.search(f"target{folder} cannot be written: Permission denied; .*run as it is", ran.errors)
-        hold(f"target{folder}: said", said, ran)
-    os.rename(copy.target, copy.target + ".kept")
+        os.chmod(os.path.join(copy.home, folder), 0o755)
+        printed(f"{folder} without the right to write", ran, ROAD_LEVELS)
+        said = re.search(f"{folder} cannot be written: Permission denied; .*run as it is", ran.errors)
+        hold(f"{folder}: said", said, ran)
+    kept = [copy.target, os.path.dirname(copy.program)]
+    for folder in kept:
+        os.rename(folder, folder + ".kept")
     os.chmod(copy.home, 0o555)
     ran = copy.run(*names, "2", cwd="/", **SHUT_OUT)
     os.chmod(copy.home, 0o755)
     stopped("a first run in a folder without the right to write", ran, 3,
             "not built, and .*target cannot be written: Permission denied")
-    os.rename(copy.target + ".kept", copy.target)
+    for folder in kept:
+        os.rename(folder + ".kept", folder)
 
 
 def is_alive(pid):
@@ -1269,7 +1278,7 @@ def interrupted(name, copy, process, number):
     hold(f"{name}: nothing printed", ran.out == b"", ran)
     hold(f"{name}: said", f"nekbrod: ended by {signal.Signals(number).name}\n" in ran.errors, ran)
     hold(f"{name}: no child left", not any(map(is_alive, pids)), ran)
-    hold(f"{name}: no temporary file left", not os.path.exists(os.path.dirname(folder) if folder else "/"), ran)
+    hold(f"{name}: no temporary file left", not os.path.exists(folder or "/"), ran)
     copy.stand_in()
     printed(f"{name}: the next run", copy.run(*ROAD, "2"), ROAD_LEVELS)
     return took
@@ -1317,7 +1326,7 @@ def two_at_once(copy):
     waits = other.errors.startswith("nekbrod: another run is building or checking")
     hold("two at once: the other says that it waits", waits, other)
     hold("two at once: the other does not build", "printer proved" not in other.errors, other)
-    hold("two at once: rt alone at a time", copy.calls() == ["check levels"] * 2 and copy.note("overlap") == "", other)
+    hold("two at once: rt alone at a time", copy.calls() == ["run in levels"] * 2 and copy.note("overlap") == "", other)
     copy.empty()
     # What it prints after its reader was killed is lost, and it goes on.
     copy.stand_in(before=f"trap '' PIPE; echo >'{copy.notes}/begun'; sleep 2")
@@ -1363,7 +1372,7 @@ def terminals(copy):
     for name, words in (("the first crate", "printer, 1 of 3"), ("the next crate", "levels, 2 of 3")):
         shown = re.search(rf"\r\x1b\[Knekbrod: {words} crates proved, [0-9]+ s\r", ran.errors)
         hold(f"progress: {name}", shown, ran)
-    hold("progress: cleared before a line", re.search(r"\r\x1b\[Knekbrod: printer proved \(1 s\)", ran.errors), ran)
+    hold("progress: cleared before a line", re.search(r"\r\x1b\[Knekbrod: printer proved", ran.errors), ran)
     hold("progress: cleared at the end", ran.errors.rsplit("nekbrod: ", 1)[1].endswith("\r\x1b[K")
          or ran.errors.endswith("\n"), ran)
     ran = on_terminal(copy, *ROAD, "2")
@@ -1441,7 +1450,7 @@ def outputs(copy):
 def main():
     for crate, program in PROGRAMS.items():
         if not os.access(program, os.X_OK):
-            print(f"{program} is not built: rt check {crate}")
+            print(f"{program} is not built: tests/build.sh")
             return 2
     signal.signal(signal.SIGTERM, lambda *_: sys.exit(2))
     os.umask(0o022)

@@ -1,5 +1,6 @@
 # What the tests of the command share: its runs, counted checks, files byte by byte, and copies of the command, where a
 # stand-in for rt is on the path.
+import hashlib
 import os
 import pty
 import re
@@ -12,11 +13,11 @@ import time
 import counted
 
 ROOT = os.path.dirname(os.path.dirname(os.path.realpath(__file__)))
-LEVELS = os.path.join(ROOT, "target/bin/levels")
-HOUR_LEVELS = os.path.join(ROOT, "target/bin/hour_levels")
-CUT_SETS = os.path.join(ROOT, "target/bin/cut_set_lines")
-MIRROR = os.path.join(ROOT, "target/bin/mirror_files")
-NODES = os.path.join(ROOT, "target/bin/node_lines")
+LEVELS = os.path.join(ROOT, "crates/levels/out/levels")
+HOUR_LEVELS = os.path.join(ROOT, "crates/hour_levels/out/hour_levels")
+CUT_SETS = os.path.join(ROOT, "crates/cut_set_lines/out/cut_set_lines")
+MIRROR = os.path.join(ROOT, "crates/mirror_files/out/mirror_files")
+NODES = os.path.join(ROOT, "crates/node_lines/out/node_lines")
 PROGRAMS = {"levels": LEVELS, "hour_levels": HOUR_LEVELS, "cut_set_lines": CUT_SETS, "mirror_files": MIRROR,
             "node_lines": NODES}
 ROAD = [os.path.join(ROOT, "examples/road_trip", name) for name in ("tree.ftf", "sheet.fts")]
@@ -209,12 +210,12 @@ os.fsync = fsync
 
 CRATES = """# crates
 theory:
-levels: printer io
-printer: theory bytes
-hour_levels: printer io
-cut_set_lines: printer io
-mirror_files: printer io
-node_lines: printer io
+levels: printer
+printer: theory
+hour_levels: printer
+cut_set_lines: printer
+mirror_files: printer
+node_lines: printer
 other: theory
 """
 
@@ -229,7 +230,7 @@ class Copy:
         self.temporary = os.path.join(work, name + " temporary")
         self.command = os.path.join(self.home, "nekbrod")
         self.target = os.path.join(self.home, "target")
-        self.program = os.path.join(self.target, "bin/levels")
+        self.program = self.built()
         for part in ("desk", "examples/fuel_supply"):
             shutil.copytree(os.path.join(ROOT, part), os.path.join(self.home, part),
                             ignore=shutil.ignore_patterns("__pycache__"))
@@ -240,6 +241,9 @@ class Copy:
         for crate, program in PROGRAMS.items():
             write(self.source(crate), read(program))
             os.chmod(self.source(crate), 0o755)
+            for part in ("stdin", "stdout"):
+                case = os.path.join("crates", crate, part)
+                write(os.path.join(self.home, case), read(os.path.join(ROOT, case)))
         os.makedirs(self.tools)
         os.makedirs(self.notes)
         # What a command that is killed leaves goes with the tests.
@@ -250,40 +254,48 @@ class Copy:
             os.symlink(shutil.which(tool), os.path.join(self.tools, tool))
         if built:
             self.stand_in()
-            for name in ("theory", "printer"):
-                write(os.path.join(self.target, "stamp", name), "")
             for crate, program in PROGRAMS.items():
-                write(os.path.join(self.target, "stamp", crate), read(program))
-                os.chmod(write(os.path.join(self.target, "bin", crate), read(program)), 0o755)
+                write(self.built(crate) + ".stamp", read(program))
+                os.chmod(write(self.built(crate), read(program)), 0o755)
+                write(os.path.join(self.target, "stamp", crate), hashlib.sha256(read(program)).hexdigest())
 
     def source(self, crate="levels"):
         return os.path.join(self.home, "crates", crate, "src/main.rt")
 
-    def stand_in(self, begin="", before="", after="", status=0, leaves="cp \"$source\" target/stamp/$crate"):
-        """A stand-in for rt: it notes its call, and goes by content as rt does; its program is its source."""
+    def built(self, crate="levels"):
+        return os.path.join(self.home, "crates", crate, "out", crate)
+
+    def stand_in(self, begin="", before="", after="", status=0, leaves="cp src/main.rt out/$crate.stamp",
+                 wrote="cat stdout"):
+        """A stand-in for rt: it notes its call, and goes by content as rt does; its program is its source. It says what
+        it does on standard error, and its program answers the stored case."""
         write(os.path.join(self.tools, "rt"), f"""#!/bin/sh
-echo "$*" >>'{self.notes}/calls'
+exec 3>&1 >&2
+crate=${{PWD##*/}}
+echo "$* in $crate" >>'{self.notes}/calls'
 mkdir '{self.notes}/busy' || echo two at once >>'{self.notes}/overlap'
-crate=$2
-source=crates/$crate/src/main.rt
 {begin}
-echo "rt: theory proved (unchanged since it was last proved)"
-if cmp -s "$source" target/stamp/$crate; then
-    echo "rt: $crate proved (unchanged since it was last proved)"
-    echo "rt: ok, 3 crates proved"
+if cmp -s src/main.rt out/$crate.stamp && [ -e out/$crate ]; then
+    echo "rt: nothing has changed since the last proved build, by out/$crate.stamp, so nothing is checked now"
+    echo "rt: running out/$crate; to give it other input, run that file yourself"
+    {wrote} >&3
     rmdir '{self.notes}/busy'
     exit 0
 fi
-mkdir -p target/bin target/stamp
-echo >target/stamp/theory
-echo >target/stamp/printer
-rm -f target/stamp/$crate
+echo "rt: chose --jobs 2 for theory"
+echo "crate theory: modules loaded=1 checked=2"
+echo "logic=proved functions=0 sum=0"
+mkdir -p out
+rm -f out/$crate.stamp
 {before}
 echo "fn some::function: proved"
-echo "rt: printer proved (1 s)"
-if [ {status} -eq 0 ]; then cp "$source" target/bin/$crate; {leaves}; fi
+echo "crate printer: modules loaded=1 checked=2"
+echo "logic=proved functions=1 sum=0"
+if [ {status} -eq 0 ]; then cp src/main.rt out/$crate; {leaves}; fi
 {after}
-echo "rt: $crate proved (2 s)"
+echo "crate $crate: modules loaded=1 checked=2"
+echo "logic=proved functions=1 sum=0"
+{wrote} >&3
 rmdir '{self.notes}/busy'
 exit {status}
 """)
@@ -295,7 +307,8 @@ exit {status}
         os.remove(os.path.join(self.tools, "rt"))
 
     def empty(self):
-        shutil.rmtree(self.target, ignore_errors=True)
+        for folder in self.target, *(os.path.dirname(self.built(crate)) for crate in PROGRAMS):
+            shutil.rmtree(folder, ignore_errors=True)
 
     def note(self, name):
         try:

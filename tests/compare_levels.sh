@@ -7,18 +7,18 @@
 set -u
 cd "$(dirname "$0")/.." || exit 2
 
-levels=target/bin/levels
-hour_levels=target/bin/hour_levels
-mirror_files=target/bin/mirror_files
-node_lines=target/bin/node_lines
+levels=crates/levels/out/levels
+hour_levels=crates/hour_levels/out/hour_levels
+mirror_files=crates/mirror_files/out/mirror_files
+node_lines=crates/node_lines/out/node_lines
 reference=reference/target/release/reference
 seed=${1:-$(date +%s)}
 count=${2:-5000}
 
-[ -x "$levels" ] || { echo "$levels is not built: rt check levels"; exit 2; }
-[ -x "$hour_levels" ] || { echo "$hour_levels is not built: rt check hour_levels"; exit 2; }
-[ -x "$mirror_files" ] || { echo "$mirror_files is not built: rt check mirror_files"; exit 2; }
-[ -x "$node_lines" ] || { echo "$node_lines is not built: rt check node_lines"; exit 2; }
+[ -x "$levels" ] || { echo "$levels is not built: tests/build.sh"; exit 2; }
+[ -x "$hour_levels" ] || { echo "$hour_levels is not built: tests/build.sh"; exit 2; }
+[ -x "$mirror_files" ] || { echo "$mirror_files is not built: tests/build.sh"; exit 2; }
+[ -x "$node_lines" ] || { echo "$node_lines is not built: tests/build.sh"; exit 2; }
 [ -x "$reference" ] || { echo "$reference is not built: cargo build --release --offline in reference/"; exit 2; }
 
 echo "levels, hour_levels, mirror_files and node_lines held to reference/, seed $seed"

@@ -16,7 +16,7 @@ from struct import pack
 from counted import finish, hold
 
 ROOT = os.path.dirname(os.path.dirname(os.path.realpath(__file__)))
-PROGRAM = os.path.join(ROOT, "target/bin/cut_set_lines")
+PROGRAM = os.path.join(ROOT, "crates/cut_set_lines/out/cut_set_lines")
 REFERENCE = os.path.join(ROOT, "reference/target/release/reference")
 EVENT, AND, OR = 0, 1, 2
 MOST_LISTED = 100000
@@ -158,7 +158,7 @@ def generated(seed, count):
 
 
 def main(words):
-    for name, command in (PROGRAM, "rt check cut_set_lines"), (
+    for name, command in (PROGRAM, "tests/build.sh"), (
             REFERENCE, "cargo build --release --offline --manifest-path reference/Cargo.toml"):
         if not os.access(name, os.X_OK):
             print(f"{name} is not built: {command}")

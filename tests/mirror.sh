@@ -3,8 +3,8 @@
 # shellcheck source-path=SCRIPTDIR
 . "$(dirname "$0")/checks.sh"
 
-mirror_files=$root/target/bin/mirror_files
-needs "$mirror_files" "rt check mirror_files"
+mirror_files=$root/crates/mirror_files/out/mirror_files
+needs "$mirror_files" tests/build.sh
 in=$work/input
 
 # Gives the input to the program, which prints what was put into the file of what is due, and nothing else.

@@ -5,10 +5,10 @@
 . "$(dirname "$0")/checks.sh"
 
 in=$work/input
-hour_levels=$root/target/bin/hour_levels
-needs "$hour_levels" "rt check hour_levels"
-node_lines=$root/target/bin/node_lines
-needs "$node_lines" "rt check node_lines"
+hour_levels=$root/crates/hour_levels/out/hour_levels
+needs "$hour_levels" tests/build.sh
+node_lines=$root/crates/node_lines/out/node_lines
+needs "$node_lines" tests/build.sh
 
 # The printer that is given an input, and the word by which reference/ prints the same.
 printer=$levels word=levels

@@ -29,7 +29,7 @@ from desk.text.fault_tree import AND, EVENT, OR, FaultTree, Node  # noqa: E402
 from desk.text.faults import Faulty  # noqa: E402
 from desk.text.open_psa import open_psa_text  # noqa: E402
 
-LEVELS = os.path.join(ROOT, "target/bin/levels")
+LEVELS = os.path.join(ROOT, "crates/levels/out/levels")
 UNIT = 10**9
 # SCRAM prints so many significant digits, without the zeros at their end.
 DIGITS = 6
@@ -153,7 +153,7 @@ def main(words):
         print("skipped: scram is not installed")
         return finish("scram.py")
     if not os.access(LEVELS, os.X_OK):
-        print(f"{LEVELS} is not built: rt check levels")
+        print(f"{LEVELS} is not built: tests/build.sh")
         return 2
     seed = int(words[0]) if words else int(time.time())
     count = int(words[1]) if words[1:] else 20

@@ -30,7 +30,7 @@ from desk.text.galileo import galileo_text  # noqa: E402
 from desk.text.names import parse_names  # noqa: E402
 from desk.text.sheet import Expert, held_sheet, sheet_text  # noqa: E402
 
-LEVELS = os.path.join(ROOT, "target/bin/levels")
+LEVELS = os.path.join(ROOT, "crates/levels/out/levels")
 COMMAND = os.path.join(ROOT, "nekbrod")
 UNIT = 10**9
 
@@ -264,7 +264,7 @@ def by_command(name, folder, paths, files, by_rows):
 
 def main(words):
     if not os.access(LEVELS, os.X_OK):
-        print(f"{LEVELS} is not built: rt check levels")
+        print(f"{LEVELS} is not built: tests/build.sh")
         return 2
     seed = int(words[0]) if words else int(time.time())
     count = int(words[1]) if words[1:] else 1000

@@ -935,7 +935,7 @@ def accepted_files(writing):
         alone = write(os.path.join(writing.place, "alone", "tree.ftf"), read(*example(name, "tree.ftf")))
         line = f'{alone}: {tree_held.partition("the top")[0]}the top event is "{DEFAULT_TOPS[name]}"\n'
         said(f"check, {name}, without names", check("check", alone), 0, out=line)
-    hold("check: rt is asked", set(writing.copy.calls()) >= {"check levels", "check hour_levels"})
+    hold("check: rt is asked", set(writing.copy.calls()) >= {"run in levels", "run in hour_levels"})
     lines = [f"{path}: {EXAMPLES[name][1][file]}\n" for name in EXAMPLES for file in ("sheet.fts", "tree.ftf")
              for path in example(name, file)]
     paths = [line.partition(": ")[0] for line in lines]
@@ -1082,7 +1082,7 @@ def nodes(writing):
         for name, words in (("at the end", [*ROAD, k, n, "--csv"]), ("at the front", ["--csv", *ROAD, k, n]),
                             ("in the middle", [ROAD[0], "--csv", ROAD[1], k, n])):
             said(f"nodes, level {k} of {n}, --csv {name}", ask("nodes", *words), 0, out=ROAD_NODES_CSV)
-    hold("nodes: rt is asked", writing.copy.calls()[-1:] == ["check node_lines"])
+    hold("nodes: rt is asked", writing.copy.calls()[-1:] == ["run in node_lines"])
     said("nodes, the fuel supply", ask("nodes", *FUEL, "5", "10", "--csv"), 0, out=FUEL_NODES_CSV)
     alone = [write(os.path.join(writing.place, "nodes", os.path.basename(path)), read(path)) for path in ROAD]
     table = "\n".join(line[:6] + line[15:] if line[:4].strip().isdigit() or line.startswith("node") else line
@@ -1495,7 +1495,7 @@ def main(words):
         os.execve(sys.executable, [sys.executable, "-B", *sys.argv], {**os.environ, "LC_ALL": "C"})
     for crate, program in PROGRAMS.items():
         if not os.access(program, os.X_OK):
-            print(f"{program} is not built: rt check {crate}")
+            print(f"{program} is not built: tests/build.sh")
             return 2
     signal.signal(signal.SIGTERM, lambda *_: sys.exit(2))
     os.umask(0o022)
