@@ -33,7 +33,7 @@ pub extern "C" fn nekbrod_question_at_hour(
     ensures buffer_after { buffer.new
         ≡ buffer_left (held_of state) tree_store.now sheet_store.now book.now
         k n hour buffer.old (slices lower.old upper.old marks.old) }
-    ensures marks_after { slices lower.new upper.new marks.new
+    ensures work_slices { slices lower.new upper.new marks.new
         ≡ hour_slices (held_of state) tree_store.now sheet_store.now book.now
         k n hour buffer.old (slices lower.old upper.old marks.old) }
     ensures promises_kept { PromisesKept result (held_tree (held_of state) tree_store.now)

@@ -68,7 +68,7 @@ pub extern "C" fn nekbrod_question(
     ensures value { result ≡ reply_for
         (reply_of (held_of state) tree_store.now sheet_store.now k n
         (slices lower.old upper.old marks.old)) }
-    ensures marks_after { slices lower.new upper.new marks.new
+    ensures work_slices { slices lower.new upper.new marks.new
         ≡ slices_left (held_of state) tree_store.now sheet_store.now k n
         (slices lower.old upper.old marks.old) }
     ensures promises_kept { PromisesKept result (held_tree (held_of state) tree_store.now)

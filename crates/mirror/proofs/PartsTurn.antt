@@ -93,3 +93,10 @@ module _ (at m : ℕ) (part : ℕ → List ℕ) (count : ℕ) (before : List ℕ
         copied_at buffer word place copied copy
         ∙ ap (λ (xs : List ℕ). take place buffer ++ (xs ++ drop (place + length xs) buffer)) is_part in
         record { within = omega arith; written = part_put after put; same = put_length after put ∙ w.same }
+
+  -- all are written
+  pub writing_ends : (buffer : List ℕ) (i : ℕ) → Writing at m part count before buffer i → count ≤ i
+      → buffer ≡ with_parts at m part count before
+  writing_ends buffer i w l =
+      let all : i ≡ count = omega (arith, w.within) in
+      w.written ∙ ap (λ k. with_parts at m part k before) all

@@ -53,7 +53,7 @@ fn answered(
     requires evaluable { Evaluable tree.now sheet.now counts.nodes k n (slices lower.old upper.old marks.old) }
     requires events_value { counts.events ≡ event_count tree.now }
     ensures value { result ≡ report_of billion tree.now sheet.now k n }
-    ensures marks_after { slices lower.new upper.new marks.new
+    ensures work_slices { slices lower.new upper.new marks.new
         ≡ slices_after billion tree.now sheet.now k n
         (slices lower.old upper.old marks.old) }
 {
@@ -78,7 +78,7 @@ pub fn question(
 ) -> Reply
     ensures value { result ≡ reply_of state tree_store.now sheet_store.now k n
         (slices lower.old upper.old marks.old) }
-    ensures marks_after { slices lower.new upper.new marks.new
+    ensures work_slices { slices lower.new upper.new marks.new
         ≡ slices_left state tree_store.now sheet_store.now k n
         (slices lower.old upper.old marks.old) }
     ensures promises_kept { PromisesKept billion result.outcome (held_tree state tree_store.now)

@@ -35,7 +35,7 @@ pub fn question_at_hour(
     ensures buffer_after { buffer.new ≡ buffer_left state tree_store.now sheet_store.now
         book.now k n hour buffer.old
         (slices lower.old upper.old marks.old) }
-    ensures marks_after { slices lower.new upper.new marks.new
+    ensures work_slices { slices lower.new upper.new marks.new
         ≡ hour_slices state tree_store.now sheet_store.now book.now
         k n hour buffer.old (slices lower.old upper.old marks.old) }
     ensures promises_kept { PromisesKept billion result.outcome (held_tree state tree_store.now)

@@ -30,8 +30,8 @@ returns-in-Refused-clause-value c =
     (refused_by_judging _ _ _ _ _ (slices c.args.lower.now c.args.upper.now c.args.marks.now) _ c.judge-standing.ensures _
     c.in-Refused.is).0
 
-pub returns-in-Refused-clause-marks_after : goal.returns-in-Refused-clause-marks_after
-returns-in-Refused-clause-marks_after c =
+pub returns-in-Refused-clause-work_slices : goal.returns-in-Refused-clause-work_slices
+returns-in-Refused-clause-work_slices c =
     (refused_by_judging _ _ _ _ _ (slices c.args.lower.now c.args.upper.now c.args.marks.now) _ c.judge-standing.ensures _
     c.in-Refused.is).1.0
 
@@ -40,8 +40,8 @@ returns-in-Found-clause-value c =
     (refused_by_slices _ _ _ _ _ (slices c.args.lower.now c.args.upper.now c.args.marks.now) _ c.judge-standing.ensures _
     c.in-Ready.is _ c.judge_slices-short.ensures _ c.in-Found.is).0
 
-pub returns-in-Found-clause-marks_after : goal.returns-in-Found-clause-marks_after
-returns-in-Found-clause-marks_after c =
+pub returns-in-Found-clause-work_slices : goal.returns-in-Found-clause-work_slices
+returns-in-Found-clause-work_slices c =
     (refused_by_slices _ _ _ _ _ (slices c.args.lower.now c.args.upper.now c.args.marks.now) _ c.judge-standing.ensures _
     c.in-Ready.is _ c.judge_slices-short.ensures _ c.in-Found.is).1.0
 
@@ -50,18 +50,18 @@ returns-in_default-clause-value c =
     (answered_all _ _ _ _ _ (slices c.args.lower.now c.args.upper.now c.args.marks.now) _ c.judge-standing.ensures _ c.in-Ready.is
     _ c.judge_slices-short.ensures c.in_default.is
     _ c.answered-report.ensures.value
-    _ c.answered-report.ensures.marks_after).0
+    _ c.answered-report.ensures.work_slices).0
 
-pub returns-in_default-clause-marks_after : goal.returns-in_default-clause-marks_after
-returns-in_default-clause-marks_after c =
+pub returns-in_default-clause-work_slices : goal.returns-in_default-clause-work_slices
+returns-in_default-clause-work_slices c =
     (answered_all _ _ _ _ _ (slices c.args.lower.now c.args.upper.now c.args.marks.now) _ c.judge-standing.ensures _ c.in-Ready.is
     _ c.judge_slices-short.ensures c.in_default.is
     _ c.answered-report.ensures.value
-    _ c.answered-report.ensures.marks_after).1.0
+    _ c.answered-report.ensures.work_slices).1.0
 
 pub returns-in_default-clause-promises_kept : goal.returns-in_default-clause-promises_kept
 returns-in_default-clause-promises_kept c =
     (answered_all _ _ _ _ _ (slices c.args.lower.now c.args.upper.now c.args.marks.now) _ c.judge-standing.ensures _ c.in-Ready.is
     _ c.judge_slices-short.ensures c.in_default.is
     _ c.answered-report.ensures.value
-    _ c.answered-report.ensures.marks_after).1.1
+    _ c.answered-report.ensures.work_slices).1.1

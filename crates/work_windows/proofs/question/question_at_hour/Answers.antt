@@ -25,8 +25,8 @@ returns-in-Refused-clause-buffer_after c =
     (refused_by_judging _ _ _ c.args.book.now _ _ c.args.hour c.args.buffer.now (slices c.args.lower.now c.args.upper.now c.args.marks.now)
     _ c.judge-standing.ensures _ c.in-Refused.is).1.0
 
-pub returns-in-Refused-clause-marks_after : goal.returns-in-Refused-clause-marks_after
-returns-in-Refused-clause-marks_after c =
+pub returns-in-Refused-clause-work_slices : goal.returns-in-Refused-clause-work_slices
+returns-in-Refused-clause-work_slices c =
     (refused_by_judging _ _ _ c.args.book.now _ _ c.args.hour c.args.buffer.now (slices c.args.lower.now c.args.upper.now c.args.marks.now)
     _ c.judge-standing.ensures _ c.in-Refused.is).1.1.0
 
@@ -40,8 +40,8 @@ returns-in-Found-clause-buffer_after c =
     (refused_by_lent _ _ _ c.args.book.now _ _ c.args.hour c.args.buffer.now (slices c.args.lower.now c.args.upper.now c.args.marks.now)
     _ c.judge-standing.ensures _ c.in-Ready.is _ c.judge_lent-found.ensures _ c.in-Found.is).1.0
 
-pub returns-in-Found-clause-marks_after : goal.returns-in-Found-clause-marks_after
-returns-in-Found-clause-marks_after c =
+pub returns-in-Found-clause-work_slices : goal.returns-in-Found-clause-work_slices
+returns-in-Found-clause-work_slices c =
     (refused_by_lent _ _ _ c.args.book.now _ _ c.args.hour c.args.buffer.now (slices c.args.lower.now c.args.upper.now c.args.marks.now)
     _ c.judge-standing.ensures _ c.in-Ready.is _ c.judge_lent-found.ensures _ c.in-Found.is).1.1.0
 
@@ -49,22 +49,22 @@ pub returns-in_default-clause-value : goal.returns-in_default-clause-value
 returns-in_default-clause-value c =
     (answered_all _ _ _ c.args.book.now _ _ c.args.hour c.args.buffer.now (slices c.args.lower.now c.args.upper.now c.args.marks.now)
     _ c.judge-standing.ensures _ c.in-Ready.is _ c.judge_lent-found.ensures c.in_default.is
-    _ c.write_sheet.ensures _ c.question.ensures.value _ c.question.ensures.marks_after c.question.ensures.promises_kept).0
+    _ c.write_sheet.ensures _ c.question.ensures.value _ c.question.ensures.work_slices c.question.ensures.promises_kept).0
 
 pub returns-in_default-clause-buffer_after : goal.returns-in_default-clause-buffer_after
 returns-in_default-clause-buffer_after c =
     (answered_all _ _ _ c.args.book.now _ _ c.args.hour c.args.buffer.now (slices c.args.lower.now c.args.upper.now c.args.marks.now)
     _ c.judge-standing.ensures _ c.in-Ready.is _ c.judge_lent-found.ensures c.in_default.is
-    _ c.write_sheet.ensures _ c.question.ensures.value _ c.question.ensures.marks_after c.question.ensures.promises_kept).1.0
+    _ c.write_sheet.ensures _ c.question.ensures.value _ c.question.ensures.work_slices c.question.ensures.promises_kept).1.0
 
-pub returns-in_default-clause-marks_after : goal.returns-in_default-clause-marks_after
-returns-in_default-clause-marks_after c =
+pub returns-in_default-clause-work_slices : goal.returns-in_default-clause-work_slices
+returns-in_default-clause-work_slices c =
     (answered_all _ _ _ c.args.book.now _ _ c.args.hour c.args.buffer.now (slices c.args.lower.now c.args.upper.now c.args.marks.now)
     _ c.judge-standing.ensures _ c.in-Ready.is _ c.judge_lent-found.ensures c.in_default.is
-    _ c.write_sheet.ensures _ c.question.ensures.value _ c.question.ensures.marks_after c.question.ensures.promises_kept).1.1.0
+    _ c.write_sheet.ensures _ c.question.ensures.value _ c.question.ensures.work_slices c.question.ensures.promises_kept).1.1.0
 
 pub returns-in_default-clause-promises_kept : goal.returns-in_default-clause-promises_kept
 returns-in_default-clause-promises_kept c =
     (answered_all _ _ _ c.args.book.now _ _ c.args.hour c.args.buffer.now (slices c.args.lower.now c.args.upper.now c.args.marks.now)
     _ c.judge-standing.ensures _ c.in-Ready.is _ c.judge_lent-found.ensures c.in_default.is
-    _ c.write_sheet.ensures _ c.question.ensures.value _ c.question.ensures.marks_after c.question.ensures.promises_kept).1.1.1
+    _ c.write_sheet.ensures _ c.question.ensures.value _ c.question.ensures.work_slices c.question.ensures.promises_kept).1.1.1
