@@ -5,7 +5,7 @@ use mathlib.Core.Bool.{Bool}
 use mathlib.Core.List.{List}
 use lib.ListN.{get_or}
 use Rattle.theory.specs.FaultTree.{GateKind, all, any}
-use Rattle.theory.specs.Rounding.{Direction, down, up, End, end_complement, step}
+use Rattle.theory.specs.Rounding.{Direction, down, up, end_complement, step}
 use Rattle.theory.specs.GateFold.{by_kind, both_seen}
 use Rattle.rounding.specs.Marks.{exact_in}
 use Rattle.rounding.specs.Ends.{as_theory, as_code, enclosure, end_in, InUnits, BothInUnits}

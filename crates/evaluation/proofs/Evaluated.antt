@@ -10,7 +10,6 @@ use Rattle.theory.specs.Rounding.{Direction, End, evaluated}
 use Rattle.tree_file.specs.Format.{linked, links_from, node_count}
 use Rattle.tree_file.specs.WellFormed.{WellFormed}
 use Rattle.tree_file.specs.NodeTable.{fault_tree, kind_as, read_node}
-use Rattle.tree_file.specs.declared.node.Gate.{Gate}
 use Rattle.tree_file.specs.declared.node.Node.{Node}
 use Rattle.tree_file.specs.declared.node.Node.TheVariants as node
 use Rattle.rounding.specs.Ends.{enclosure}

@@ -6,7 +6,6 @@ use native.Mathlib.Nat.{le_of_eq}
 use Rattle.theory.specs.Unit.{billion}
 use Rattle.theory.specs.Rounding.{Direction, End, cut_end, end_of}
 use Rattle.tree_file.specs.Format.{node_count}
-use Rattle.tree_file.specs.declared.node.Node.TheVariants as node
 use Rattle.opinion_sheet.specs.EventCut.{event_cut, cut_at}
 use Rattle.rounding.specs.declared.end.Enclosure.{Enclosure}
 use Rattle.evaluation.specs.Slices.{Slices, ends, after_turns}

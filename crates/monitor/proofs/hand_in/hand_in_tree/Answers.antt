@@ -1,6 +1,5 @@
 -- The answer and the store after, by the judgement and by the length of the store.
-use Rattle.std.proofs.Common.{◌≡◌, sym, ◌∙◌, List, ℕ, length}
-use Rattle.refusals.specs.declared.refusal.FirstFault.TheVariants.{Absent}
+use Rattle.std.proofs.Common.{sym, ◌∙◌, List, ℕ, length}
 use Rattle.tree_file.specs.Judged.{fault_of}
 use Rattle.tree_file.proofs.JudgedParts.{accepted_absent, refused_found}
 use Rattle.monitor.specs.HandIn.{holding_tree}

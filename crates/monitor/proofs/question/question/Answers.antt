@@ -1,5 +1,5 @@
 -- The reply, the slices and the promises, by the standing and by the slices' lengths.
-use Rattle.std.proofs.Common.{◌≡◌, sym, ap, ◌∙◌, length-take-le}
+use Rattle.std.proofs.Common.{sym, ap, ◌∙◌, length-take-le}
 use Rattle.tree_file.specs.declared.judgement.Counts.{Counts}
 use Rattle.evaluation.specs.Slices.{slices}
 use Rattle.monitor.proofs.Ready.{ready_pair}
