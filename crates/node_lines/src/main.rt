@@ -1,6 +1,5 @@
 // The node printer: reads a level, a tree file and an opinion sheet on standard input, and prints the ends and marks of
-// every node at that level, a line each, or a line that says why not. Where that fails, it says so on standard
-// error.
+// every node at that level, a line each, or a line that says why not. Where that fails, it says so on standard error.
 #![tactic(auto)]
 
 mod answer;

@@ -1,6 +1,6 @@
 -- The laws behind the contracts; what an accepted file is (Accepted), which rule a refused one breaks first (Broken),
 -- what the nodes are (Nodes, NodeTable), and that the tree opens node by node and the root has every basic event
--- (Root).
+-- (Root). Cases are computed by the prover.
 pub mod Tallies
 pub mod HeaderLaws
 pub mod RecordLaws
