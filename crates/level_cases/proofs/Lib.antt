@@ -1,1 +1,0 @@
--- The proofs of this program's functions.
