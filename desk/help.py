@@ -24,7 +24,7 @@ nekbrod: a fault tree with experts' opinions and makers' figures, answered by pr
 
 The first run of each kind proves and builds its program with the toolchain's command rt; that takes minutes,
 and tells its progress on standard error. Later runs ask rt what has changed, and start at once where nothing has.
-Where rt is not on the path, or the folder target/ cannot be written, what is built is run, and a line says so.
+Where rt is not on the path, or target/ or a crate's out/ cannot be written, what is built is run, and a line says so.
 Nothing has to be built for write.
 
 A file that breaks a rule is refused: standard output has one line, 'refused R at P' or 'input', and standard error
