@@ -50,7 +50,8 @@ fn write_input(
             if total == 1 {
                 let set = sets[0];
                 write_sets(tree, i, counts, sets);
-                if set == 0 {
+                let is_empty = set == 0;
+                if is_empty {
                     return count;
                 }
                 join_block(sets, count, 0, set);

@@ -13,13 +13,13 @@ write_input-overflow_add-result t c = let fits = behind_fits c.requires c.in-Any
 pub write_input-bounds-sets-0 : goal.write_input-bounds-sets-0
 write_input-bounds-sets-0 t c = single_placed c.requires c.in-All.is c.if-total-eq1.true
 
-pub write_input-returns-then-set-eq0-clause-value : goal.write_input-returns-then-set-eq0-clause-value
-write_input-returns-then-set-eq0-clause-value t c =
-    (single_kept c.requires c.in-All.is c.if-total-eq1.true c.write_sets-then-total-eq1.ensures c.if-set-eq0.true).0
+pub write_input-returns-then-is_empty-clause-value : goal.write_input-returns-then-is_empty-clause-value
+write_input-returns-then-is_empty-clause-value t c =
+    (single_kept c.requires c.in-All.is c.if-total-eq1.true c.write_sets-then-total-eq1.ensures c.if-is_empty.true).0
 
-pub write_input-returns-then-set-eq0-clause-input_written : goal.write_input-returns-then-set-eq0-clause-input_written
-write_input-returns-then-set-eq0-clause-input_written t c =
-    (single_kept c.requires c.in-All.is c.if-total-eq1.true c.write_sets-then-total-eq1.ensures c.if-set-eq0.true).1
+pub write_input-returns-then-is_empty-clause-input_written : goal.write_input-returns-then-is_empty-clause-input_written
+write_input-returns-then-is_empty-clause-input_written t c =
+    (single_kept c.requires c.in-All.is c.if-total-eq1.true c.write_sets-then-total-eq1.ensures c.if-is_empty.true).1
 
 pub write_input-join_block-requires-clause-m_in_bounds : goal.write_input-join_block-requires-clause-m_in_bounds
 write_input-join_block-requires-clause-m_in_bounds t c =
