@@ -1,4 +1,4 @@
-//! Links the proved library that `rt lib` writes in crates/capi, and the peer, which is built here for this machine. The
+//! Links the proved library that `tools/staticlib.sh` writes, and the peer, which is built here for this machine. The
 //! proved library is made a shared one as well, to be opened beside that of another commit.
 
 use std::env;
@@ -12,7 +12,7 @@ const PEER_FLAGS: [&str; 7] = ["-std=c11", "-O3", "-march=native", "-Wall", "-We
 fn main() {
     let [package, built] =
         ["CARGO_MANIFEST_DIR", "OUT_DIR"].map(|name| PathBuf::from(env::var(name).expect("cargo names its folders")));
-    link_library(&package.join("../crates/capi/out"), &built.join("capi.so"));
+    link_library(&package.join("../target/staticlib"), &built.join("capi.so"));
     build_peer(&package, &built);
 }
 
@@ -20,7 +20,7 @@ fn link_library(folder: &Path, shared: &Path) {
     let library = folder.join(LIBRARY);
     println!("cargo::rerun-if-changed={}", library.display());
     if !library.exists() {
-        println!("cargo::error=crates/capi/out/{LIBRARY} is missing: first run `rt lib` in crates/capi");
+        println!("cargo::error=target/staticlib/{LIBRARY} is missing: first run `tools/staticlib.sh` at the root");
         return;
     }
     println!("cargo::rustc-link-search=native={}", folder.display());

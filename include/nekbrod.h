@@ -14,7 +14,7 @@
  * - nothing else writes to lent memory during the call.
  * A slice of length 0 may have the null pointer: it is a short one, and nothing is read or written through it.
  *
- * Build: rt lib in crates/capi, then link crates/capi/out/libcapi.a (x86-64 Linux).
+ * Build: tools/staticlib.sh, then link target/staticlib/libcapi.a (x86-64 Linux).
  */
 #ifndef NEKBROD_H
 #define NEKBROD_H

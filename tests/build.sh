@@ -1,6 +1,6 @@
 #!/bin/sh
 # Proves and builds what the tests run: each program, crates/NAME/out/NAME, which must print its stored case, and the C
-# library, crates/capi/out/libcapi.a. What rt has kept is not proved again.
+# library, target/staticlib/libcapi.a. What rt has kept is not proved again.
 set -u
 cd "$(dirname "$0")/.." || exit 2
 
@@ -12,4 +12,4 @@ for name in levels hour_levels node_lines cut_set_lines mirror_files; do
     (cd "crates/$name" && rt run <stdin >"$work/stdout") || { echo "build.sh: $name is not built"; exit 1; }
     cmp "$work/stdout" "crates/$name/stdout" || exit 1
 done
-(cd crates/capi && rt lib) || { echo "build.sh: the C library is not built"; exit 1; }
+tools/staticlib.sh

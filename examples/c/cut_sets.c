@@ -6,8 +6,8 @@
  * Exit status: 0 answered, 1 refused, 2 the arguments are wrong, the file can't be read, there is no room for so many
  * sets, or the library is not that of the header, 3 the answer can't be written.
  *
- * Build at the repository's root, after rt lib in crates/capi:
- *     cc -Iinclude examples/c/cut_sets.c crates/capi/out/libcapi.a -o cut_sets
+ * Build at the repository's root, after tools/staticlib.sh:
+ *     cc -Iinclude examples/c/cut_sets.c target/staticlib/libcapi.a -o cut_sets
  */
 #include "answer.h"
 #include "read_file.h"

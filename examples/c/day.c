@@ -7,8 +7,8 @@
  * number and place. Exit status: 0 answered, 1 refused, 2 the arguments are wrong, a file can't be read, or the library
  * is not that of the header, 3 the answer can't be written.
  *
- * Build at the repository's root, after rt lib in crates/capi:
- *     cc -Iinclude examples/c/day.c crates/capi/out/libcapi.a -o day
+ * Build at the repository's root, after tools/staticlib.sh:
+ *     cc -Iinclude examples/c/day.c target/staticlib/libcapi.a -o day
  */
 #include "answer.h"
 #include "read_file.h"

@@ -5,8 +5,8 @@
  * = is exact and ~ is not. A refusal is printed with its number and place. Exit status: 0 answered, 1 refused, 2 the
  * arguments are wrong, a file can't be read, or the library is not that of the header, 3 the answer can't be written.
  *
- * Build at the repository's root, after rt lib in crates/capi:
- *     cc -Iinclude examples/c/level.c crates/capi/out/libcapi.a -o level
+ * Build at the repository's root, after tools/staticlib.sh:
+ *     cc -Iinclude examples/c/level.c target/staticlib/libcapi.a -o level
  */
 #include "answer.h"
 #include "read_file.h"

@@ -4,8 +4,8 @@
  * rest of their page is filled and looked at in the end; files are on pages that can't be written. And that header and
  * library are of one version. Prints ok, or each line that fails.
  *
- * Build at the repository's root, after rt lib in crates/capi:
- *     cc -Iinclude examples/c/short_slices.c crates/capi/out/libcapi.a -o short_slices
+ * Build at the repository's root, after tools/staticlib.sh:
+ *     cc -Iinclude examples/c/short_slices.c target/staticlib/libcapi.a -o short_slices
  */
 #define _DEFAULT_SOURCE
 #include <nekbrod.h>

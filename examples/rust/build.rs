@@ -1,4 +1,4 @@
-//! Links the proved library that `rt lib` writes in crates/capi.
+//! Links the proved library that `tools/staticlib.sh` writes.
 
 use std::env;
 use std::path::PathBuf;
@@ -7,11 +7,11 @@ const LIBRARY: &str = "libcapi.a";
 
 fn main() {
     let package = PathBuf::from(env::var("CARGO_MANIFEST_DIR").expect("cargo names the package's folder"));
-    let folder = package.join("../../crates/capi/out");
+    let folder = package.join("../../target/staticlib");
     let library = folder.join(LIBRARY);
     println!("cargo::rerun-if-changed={}", library.display());
     if !library.exists() {
-        println!("cargo::error=crates/capi/out/{LIBRARY} is missing: first run `rt lib` in crates/capi");
+        println!("cargo::error=target/staticlib/{LIBRARY} is missing: first run `tools/staticlib.sh` at the root");
         return;
     }
     println!("cargo::rustc-link-search=native={}", folder.display());

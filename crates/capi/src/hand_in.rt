@@ -35,8 +35,7 @@ fn answer_by(held: Held, verdict: Verdict) -> Answer
 }
 
 // Hands in a tree file: an accepted one is copied to the front of its store and replaces the one held.
-#[unsafe(no_mangle)]
-pub extern "C" fn nekbrod_hand_in_tree(state: State, file: &[u8], store: &mut [u8]) -> Answer
+pub fn nekbrod_hand_in_tree(state: State, file: &[u8], store: &mut [u8]) -> Answer
     ensures value { result ≡ answer_for (tree_answer (held_of state) file.now store.old) }
     ensures store_after { store.new ≡ tree_store file.now store.old }
 {
@@ -46,8 +45,7 @@ pub extern "C" fn nekbrod_hand_in_tree(state: State, file: &[u8], store: &mut [u
 }
 
 // Hands in an opinion sheet: an accepted one is copied to the front of its store and replaces the one held.
-#[unsafe(no_mangle)]
-pub extern "C" fn nekbrod_hand_in_sheet(state: State, file: &[u8], store: &mut [u8]) -> Answer
+pub fn nekbrod_hand_in_sheet(state: State, file: &[u8], store: &mut [u8]) -> Answer
     ensures value { result ≡ answer_for (sheet_answer (held_of state) file.now store.old) }
     ensures store_after { store.new ≡ sheet_store file.now store.old }
 {
@@ -57,8 +55,7 @@ pub extern "C" fn nekbrod_hand_in_sheet(state: State, file: &[u8], store: &mut [
 }
 
 // Drops both files. The stores' bytes stay.
-#[unsafe(no_mangle)]
-pub extern "C" fn nekbrod_drop_both(state: State) -> State
+pub fn nekbrod_drop_both(state: State) -> State
     ensures { result ≡ state_of nothing_held }
 {
     let dropped = drop_both(held_state(state));

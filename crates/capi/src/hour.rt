@@ -13,8 +13,7 @@ use work_windows::question::question_at_hour;
 
 // Questions level k of n at an hour: the hour's sheet is written to the buffer. The last promise is demands 2 and 3 of
 // that sheet, of the reply and of every node's place in the slices.
-#[unsafe(no_mangle)]
-pub extern "C" fn nekbrod_question_at_hour(
+pub fn nekbrod_question_at_hour(
     state: State,
     tree_store: &[u8],
     sheet_store: &[u8],

@@ -37,8 +37,7 @@ fn standing_for(judged: Judged) -> Standing
 }
 
 // Whether level k of n can be put to the held pair: refusals 13 and 21 to 24, or the tree's counts.
-#[unsafe(no_mangle)]
-pub extern "C" fn nekbrod_judge(
+pub fn nekbrod_judge(
     state: State,
     tree_store: &[u8],
     sheet_store: &[u8],

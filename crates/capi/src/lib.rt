@@ -1,4 +1,4 @@
-// The monitor's calls for C and Rust: numbers, lent slices and structs by value. include/nekbrod.h declares them.
+// The monitor's calls for C and Rust: numbers, lent slices and structs by value. capi_c exports them.
 #![tactic(auto)]
 
 pub mod hand_in;

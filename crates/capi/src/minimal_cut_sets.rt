@@ -59,20 +59,14 @@ fn listing_by(held: Held, outcome: Outcome) -> Listing
 }
 
 // Counts the minimal cut sets of the held tree: refusals 21, 23 and 26, or their number.
-#[unsafe(no_mangle)]
-pub extern "C" fn nekbrod_count_cut_sets(state: State, tree_store: &[u8]) -> SetCount
+pub fn nekbrod_count_cut_sets(state: State, tree_store: &[u8]) -> SetCount
     ensures { result ≡ count_for (count_outcome (held_of state) tree_store.now) }
 {
     count_for(count_sets(held_state(state), tree_store))
 }
 
 // Lists the minimal cut sets of the held tree in the lent slice: refusals 21, 23, 26 and 27, or their number.
-#[unsafe(no_mangle)]
-pub extern "C" fn nekbrod_list_cut_sets(
-    state: State,
-    tree_store: &[u8],
-    sets: &mut [u64],
-) -> Listing
+pub fn nekbrod_list_cut_sets(state: State, tree_store: &[u8], sets: &mut [u64]) -> Listing
     ensures value { result ≡ listing_for
         (reply_of (held_of state) tree_store.now (length sets.old)) }
     ensures slice_left { SliceLeft result (held_tree (held_of state) tree_store.now)

@@ -54,8 +54,7 @@ pub fn reply_by(held: Held, outcome: Outcome) -> Reply
 }
 
 // Questions level k of n. The last promise is demands 2 and 3, of the reply and of every node's place in the slices.
-#[unsafe(no_mangle)]
-pub extern "C" fn nekbrod_question(
+pub fn nekbrod_question(
     state: State,
     tree_store: &[u8],
     sheet_store: &[u8],

@@ -29,8 +29,7 @@ fn mirror_answer_by(held: Held, outcome: Outcome) -> Answer
 
 // Writes the mirror of the held pair to the fronts of the two buffers. The last promise is De Morgan's law on what is
 // reported of the two pairs.
-#[unsafe(no_mangle)]
-pub extern "C" fn nekbrod_mirror(
+pub fn nekbrod_mirror(
     state: State,
     tree_store: &[u8],
     sheet_store: &[u8],

@@ -5,7 +5,7 @@
 //! place. Exit status: 0 answered, 1 refused, 2 the arguments are wrong, the file can't be read or there are more sets
 //! than are listed here, 3 the lines could not be written.
 //!
-//! Run at the repository's root, after `rt lib` in crates/capi:
+//! Run at the repository's root, after `tools/staticlib.sh`:
 //!     cargo run --release --offline --manifest-path examples/rust/Cargo.toml --bin cut_sets -- TREE
 
 use nekbrod::{Monitor, Refusal};

@@ -6,7 +6,7 @@
 //! number and place. Exit status: 0 answered, 1 refused, 2 the arguments are wrong or a file can't be read, 3 the lines
 //! could not be written.
 //!
-//! Run at the repository's root, after `rt lib` in crates/capi:
+//! Run at the repository's root, after `tools/staticlib.sh`:
 //!     cargo run --release --offline --manifest-path examples/rust/Cargo.toml --bin day -- TREE SHEET BOOK K N FIRST
 
 mod words;

@@ -4,7 +4,7 @@
 //! where = is exact and ~ is not. A refusal is printed with its number and place. Exit status: 0 answered, 1 refused,
 //! 2 the arguments are wrong or a file can't be read, 3 the line could not be written.
 //!
-//! Run at the repository's root, after `rt lib` in crates/capi:
+//! Run at the repository's root, after `tools/staticlib.sh`:
 //!     cargo run --release --offline --manifest-path examples/rust/Cargo.toml -- TREE SHEET K N
 
 mod words;

@@ -1,0 +1,55 @@
+// Questioning a level at an hour.
+ghost use Rattle.std.specs.Prelude.{◌≡◌};
+ghost use Rattle.evaluation.specs.Slices.{slices};
+ghost use Rattle.monitor.specs.Standing.{held_tree, held_sheet};
+ghost use Rattle.work_windows.specs.Sheet.{written_sheet};
+ghost use Rattle.work_windows.specs.Question.{buffer_left, hour_reply, hour_slices};
+ghost use Rattle.capi.specs.State.{held_of};
+ghost use Rattle.capi.specs.Question.{reply_for, PromisesKept};
+
+use capi::question::Reply;
+use capi::state::State;
+
+// Questions level k of n at an hour: the hour's sheet is written to the buffer. The last promise is demands 2 and 3 of
+// that sheet, of the reply and of every node's place in the slices.
+#[unsafe(no_mangle)]
+pub extern "C" fn nekbrod_question_at_hour(
+    state: State,
+    tree_store: &[u8],
+    sheet_store: &[u8],
+    book: &[u8],
+    k: u32,
+    n: u32,
+    hour: u32,
+    buffer: &mut [u8],
+    lower: &mut [u32],
+    upper: &mut [u32],
+    marks: &mut [u8],
+) -> Reply
+    ensures value { result ≡ reply_for
+        (hour_reply (held_of state) tree_store.now sheet_store.now book.now
+        k n hour buffer.old (slices lower.old upper.old marks.old)) }
+    ensures buffer_after { buffer.new
+        ≡ buffer_left (held_of state) tree_store.now sheet_store.now book.now
+        k n hour buffer.old (slices lower.old upper.old marks.old) }
+    ensures work_slices { slices lower.new upper.new marks.new
+        ≡ hour_slices (held_of state) tree_store.now sheet_store.now book.now
+        k n hour buffer.old (slices lower.old upper.old marks.old) }
+    ensures promises_kept { PromisesKept result (held_tree (held_of state) tree_store.now)
+        (written_sheet (held_sheet (held_of state) sheet_store.now) book.now hour) k n
+        (slices lower.new upper.new marks.new) }
+{
+    capi::hour::nekbrod_question_at_hour(
+        state,
+        tree_store,
+        sheet_store,
+        book,
+        k,
+        n,
+        hour,
+        buffer,
+        lower,
+        upper,
+        marks,
+    )
+}

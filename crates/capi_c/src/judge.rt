@@ -1,0 +1,23 @@
+// Judging a level and both held files, before a question is put.
+ghost use Rattle.std.specs.Prelude.{◌≡◌};
+ghost use Rattle.monitor.specs.Standing.{standing_of};
+ghost use Rattle.capi.specs.State.{held_of};
+ghost use Rattle.capi.specs.Standing.{standing_for};
+
+use capi::judge::Standing;
+use capi::state::State;
+
+// Whether level k of n can be put to the held pair: refusals 13 and 21 to 24, or the tree's counts.
+#[unsafe(no_mangle)]
+pub extern "C" fn nekbrod_judge(
+    state: State,
+    tree_store: &[u8],
+    sheet_store: &[u8],
+    k: u32,
+    n: u32,
+) -> Standing
+    ensures { result ≡ standing_for
+        (standing_of (held_of state) tree_store.now sheet_store.now k n) }
+{
+    capi::judge::nekbrod_judge(state, tree_store, sheet_store, k, n)
+}

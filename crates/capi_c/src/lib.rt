@@ -1,0 +1,10 @@
+// The C library: the calls of capi under the names of include/nekbrod.h, with its clauses.
+#![tactic(auto)]
+
+mod hand_in;
+mod hour;
+mod judge;
+mod minimal_cut_sets;
+mod question;
+mod success_tree;
+mod version;

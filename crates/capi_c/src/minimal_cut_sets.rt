@@ -1,0 +1,32 @@
+// Counting and listing the minimal cut sets of the held tree.
+ghost use Rattle.std.specs.Prelude.{◌≡◌, length};
+ghost use Rattle.monitor.specs.Standing.{held_tree};
+ghost use Rattle.cut_sets.specs.Judged.{count_outcome, reply_of};
+ghost use Rattle.capi.specs.State.{held_of};
+ghost use Rattle.capi.specs.CutSets.{count_for, listing_for, SliceLeft};
+
+use capi::minimal_cut_sets::{Listing, SetCount};
+use capi::state::State;
+
+// Counts the minimal cut sets of the held tree: refusals 21, 23 and 26, or their number.
+#[unsafe(no_mangle)]
+pub extern "C" fn nekbrod_count_cut_sets(state: State, tree_store: &[u8]) -> SetCount
+    ensures { result ≡ count_for (count_outcome (held_of state) tree_store.now) }
+{
+    capi::minimal_cut_sets::nekbrod_count_cut_sets(state, tree_store)
+}
+
+// Lists the minimal cut sets of the held tree in the lent slice: refusals 21, 23, 26 and 27, or their number.
+#[unsafe(no_mangle)]
+pub extern "C" fn nekbrod_list_cut_sets(
+    state: State,
+    tree_store: &[u8],
+    sets: &mut [u64],
+) -> Listing
+    ensures value { result ≡ listing_for
+        (reply_of (held_of state) tree_store.now (length sets.old)) }
+    ensures slice_left { SliceLeft result (held_tree (held_of state) tree_store.now)
+        sets.old sets.new }
+{
+    capi::minimal_cut_sets::nekbrod_list_cut_sets(state, tree_store, sets)
+}
