@@ -11,52 +11,33 @@ use Rattle.monitor.proofs.hand_in.hand_in_sheet.Goals as goal
 abbrev after : List ℕ → State → State
 after file state = holding_sheet (length file) state
 
-pub returns-in-Refused-clause-value : goal.returns-in-Refused-clause-value
-returns-in-Refused-clause-value c =
+pub returns-in-Refused : goal.returns-in-Refused
+returns-in-Refused c =
     let f = c.args.sheet.now in
-    (refused_file (fault_of f) f c.args.store.now c.args.state (after f c.args.state) c.in-Refused.refusal
-    (refused_found _ _ _ (sym c.judge-judgement.ensures ∙ c.in-Refused.is))).0
+    let all =
+    refused_file (fault_of f) f c.args.store.now c.args.state (after f c.args.state) c.in-Refused.refusal
+    (refused_found _ _ _ (sym c.judge-judgement.ensures ∙ c.in-Refused.is)) in
+    record { value = all.0; store_after = all.1 }
 
-pub returns-in-Refused-clause-store_after : goal.returns-in-Refused-clause-store_after
-returns-in-Refused-clause-store_after c =
+pub returns-then-store-sheet : goal.returns-then-store-sheet
+returns-then-store-sheet c =
     let f = c.args.sheet.now in
-    (refused_file (fault_of f) f c.args.store.now c.args.state (after f c.args.state) c.in-Refused.refusal
-    (refused_found _ _ _ (sym c.judge-judgement.ensures ∙ c.in-Refused.is))).1
-
-pub returns-then-store-sheet-clause-value : goal.returns-then-store-sheet-clause-value
-returns-then-store-sheet-clause-value c =
-    let f = c.args.sheet.now in
-    (refused_store (fault_of f) f c.args.store.now c.args.state (after f c.args.state)
+    let all =
+    refused_store (fault_of f) f c.args.store.now c.args.state (after f c.args.state)
     (accepted_absent _ _ _ (sym c.judge-judgement.ensures ∙ c.in_default.is)).0
-    c.if-store-sheet.true).0
+    c.if-store-sheet.true in
+    record { value = all.0; store_after = all.1 }
 
-pub returns-then-store-sheet-clause-store_after : goal.returns-then-store-sheet-clause-store_after
-returns-then-store-sheet-clause-store_after c =
+pub returns : goal.returns
+returns c =
     let f = c.args.sheet.now in
-    (refused_store (fault_of f) f c.args.store.now c.args.state (after f c.args.state)
-    (accepted_absent _ _ _ (sym c.judge-judgement.ensures ∙ c.in_default.is)).0
-    c.if-store-sheet.true).1
-
-pub returns-clause-value : goal.returns-clause-value
-returns-clause-value c =
-    let f = c.args.sheet.now in
-    let count = c.copy-sheet_len.ensures.count in
-    (taken (fault_of f) f c.args.store.now c.args.state (after f c.args.state)
+    let copied = c.copy-sheet_len.ensures in
+    let all =
+    taken (fault_of f) f c.args.store.now c.args.state (after f c.args.state)
     (accepted_absent _ _ _ (sym c.judge-judgement.ensures ∙ c.in_default.is)).0
     c.if-store-sheet.false
     (holding_sheet c.copy-sheet_len.result c.args.state)
-    (λ i. holding_sheet (count i) c.args.state)
+    (λ i. holding_sheet (copied.count i) c.args.state)
     c.copy-sheet_len.new.to
-    c.copy-sheet_len.ensures.copied).0
-
-pub returns-clause-store_after : goal.returns-clause-store_after
-returns-clause-store_after c =
-    let f = c.args.sheet.now in
-    let count = c.copy-sheet_len.ensures.count in
-    (taken (fault_of f) f c.args.store.now c.args.state (after f c.args.state)
-    (accepted_absent _ _ _ (sym c.judge-judgement.ensures ∙ c.in_default.is)).0
-    c.if-store-sheet.false
-    (holding_sheet c.copy-sheet_len.result c.args.state)
-    (λ i. holding_sheet (count i) c.args.state)
-    c.copy-sheet_len.new.to
-    c.copy-sheet_len.ensures.copied).1
+    copied.copied in
+    record { value = all.0; store_after = all.1 }

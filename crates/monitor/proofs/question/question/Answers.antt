@@ -25,43 +25,21 @@ answered-report-requires-clause-events_value c =
     let pair = ready_pair _ _ _ _ _ _ (sym c.judge-standing.ensures ∙ c.in-Ready.is) in
     ap (λ (n : Counts). n.events) pair.counts_is
 
-pub returns-in-Refused-clause-value : goal.returns-in-Refused-clause-value
-returns-in-Refused-clause-value c =
-    (refused_by_judging _ _ _ _ _ (slices c.args.lower.now c.args.upper.now c.args.marks.now) _ c.judge-standing.ensures _
-    c.in-Refused.is).0
+pub returns-in-Refused : goal.returns-in-Refused
+returns-in-Refused c =
+    let all = refused_by_judging _ _ _ _ _ (slices c.args.lower.now c.args.upper.now c.args.marks.now) _ c.judge-standing.ensures _ c.in-Refused.is in
+    record { value = all.0; work_slices = all.1.0; promises_kept = all.1.1 }
 
-pub returns-in-Refused-clause-work_slices : goal.returns-in-Refused-clause-work_slices
-returns-in-Refused-clause-work_slices c =
-    (refused_by_judging _ _ _ _ _ (slices c.args.lower.now c.args.upper.now c.args.marks.now) _ c.judge-standing.ensures _
-    c.in-Refused.is).1.0
+pub returns-in-Found : goal.returns-in-Found
+returns-in-Found c =
+    let all =
+    refused_by_slices _ _ _ _ _ (slices c.args.lower.now c.args.upper.now c.args.marks.now) _ c.judge-standing.ensures _ c.in-Ready.is _ c.judge_slices-short.ensures _
+    c.in-Found.is in
+    record { value = all.0; work_slices = all.1.0; promises_kept = all.1.1 }
 
-pub returns-in-Found-clause-value : goal.returns-in-Found-clause-value
-returns-in-Found-clause-value c =
-    (refused_by_slices _ _ _ _ _ (slices c.args.lower.now c.args.upper.now c.args.marks.now) _ c.judge-standing.ensures _
-    c.in-Ready.is _ c.judge_slices-short.ensures _ c.in-Found.is).0
-
-pub returns-in-Found-clause-work_slices : goal.returns-in-Found-clause-work_slices
-returns-in-Found-clause-work_slices c =
-    (refused_by_slices _ _ _ _ _ (slices c.args.lower.now c.args.upper.now c.args.marks.now) _ c.judge-standing.ensures _
-    c.in-Ready.is _ c.judge_slices-short.ensures _ c.in-Found.is).1.0
-
-pub returns-in_default-clause-value : goal.returns-in_default-clause-value
-returns-in_default-clause-value c =
-    (answered_all _ _ _ _ _ (slices c.args.lower.now c.args.upper.now c.args.marks.now) _ c.judge-standing.ensures _ c.in-Ready.is
-    _ c.judge_slices-short.ensures c.in_default.is
-    _ c.answered-report.ensures.value
-    _ c.answered-report.ensures.work_slices).0
-
-pub returns-in_default-clause-work_slices : goal.returns-in_default-clause-work_slices
-returns-in_default-clause-work_slices c =
-    (answered_all _ _ _ _ _ (slices c.args.lower.now c.args.upper.now c.args.marks.now) _ c.judge-standing.ensures _ c.in-Ready.is
-    _ c.judge_slices-short.ensures c.in_default.is
-    _ c.answered-report.ensures.value
-    _ c.answered-report.ensures.work_slices).1.0
-
-pub returns-in_default-clause-promises_kept : goal.returns-in_default-clause-promises_kept
-returns-in_default-clause-promises_kept c =
-    (answered_all _ _ _ _ _ (slices c.args.lower.now c.args.upper.now c.args.marks.now) _ c.judge-standing.ensures _ c.in-Ready.is
-    _ c.judge_slices-short.ensures c.in_default.is
-    _ c.answered-report.ensures.value
-    _ c.answered-report.ensures.work_slices).1.1
+pub returns-in_default : goal.returns-in_default
+returns-in_default c =
+    let all =
+    answered_all _ _ _ _ _ (slices c.args.lower.now c.args.upper.now c.args.marks.now) _ c.judge-standing.ensures _ c.in-Ready.is _ c.judge_slices-short.ensures
+    c.in_default.is _ c.answered-report.ensures.value _ c.answered-report.ensures.work_slices in
+    record { value = all.0; work_slices = all.1.0; promises_kept = all.1.1 }

@@ -15,56 +15,43 @@ write_sheet-requires c =
     writable _ _ _ c.args.book.now _ _ c.args.hour c.args.buffer.now (slices c.args.lower.now c.args.upper.now c.args.marks.now)
     _ c.judge-standing.ensures _ c.in-Ready.is _ c.judge_lent-found.ensures c.in_default.is
 
-pub returns-in-Refused-clause-value : goal.returns-in-Refused-clause-value
-returns-in-Refused-clause-value c =
-    (refused_by_judging _ _ _ c.args.book.now _ _ c.args.hour c.args.buffer.now (slices c.args.lower.now c.args.upper.now c.args.marks.now)
-    _ c.judge-standing.ensures _ c.in-Refused.is).0
+pub returns-in-Refused : goal.returns-in-Refused
+returns-in-Refused c =
+    let all =
+    refused_by_judging _ _ _ c.args.book.now _ _ c.args.hour c.args.buffer.now
+    (slices c.args.lower.now c.args.upper.now c.args.marks.now)
+    _ c.judge-standing.ensures _ c.in-Refused.is in
+    record {
+      value = all.0;
+      buffer_after = all.1.0;
+      work_slices = all.1.1.0;
+      promises_kept = all.1.1.1;
+    }
 
-pub returns-in-Refused-clause-buffer_after : goal.returns-in-Refused-clause-buffer_after
-returns-in-Refused-clause-buffer_after c =
-    (refused_by_judging _ _ _ c.args.book.now _ _ c.args.hour c.args.buffer.now (slices c.args.lower.now c.args.upper.now c.args.marks.now)
-    _ c.judge-standing.ensures _ c.in-Refused.is).1.0
+pub returns-in-Found : goal.returns-in-Found
+returns-in-Found c =
+    let all =
+    refused_by_lent _ _ _ c.args.book.now _ _ c.args.hour c.args.buffer.now
+    (slices c.args.lower.now c.args.upper.now c.args.marks.now)
+    _ c.judge-standing.ensures _ c.in-Ready.is _ c.judge_lent-found.ensures _ c.in-Found.is in
+    record {
+      value = all.0;
+      buffer_after = all.1.0;
+      work_slices = all.1.1.0;
+      promises_kept = all.1.1.1;
+    }
 
-pub returns-in-Refused-clause-work_slices : goal.returns-in-Refused-clause-work_slices
-returns-in-Refused-clause-work_slices c =
-    (refused_by_judging _ _ _ c.args.book.now _ _ c.args.hour c.args.buffer.now (slices c.args.lower.now c.args.upper.now c.args.marks.now)
-    _ c.judge-standing.ensures _ c.in-Refused.is).1.1.0
-
-pub returns-in-Found-clause-value : goal.returns-in-Found-clause-value
-returns-in-Found-clause-value c =
-    (refused_by_lent _ _ _ c.args.book.now _ _ c.args.hour c.args.buffer.now (slices c.args.lower.now c.args.upper.now c.args.marks.now)
-    _ c.judge-standing.ensures _ c.in-Ready.is _ c.judge_lent-found.ensures _ c.in-Found.is).0
-
-pub returns-in-Found-clause-buffer_after : goal.returns-in-Found-clause-buffer_after
-returns-in-Found-clause-buffer_after c =
-    (refused_by_lent _ _ _ c.args.book.now _ _ c.args.hour c.args.buffer.now (slices c.args.lower.now c.args.upper.now c.args.marks.now)
-    _ c.judge-standing.ensures _ c.in-Ready.is _ c.judge_lent-found.ensures _ c.in-Found.is).1.0
-
-pub returns-in-Found-clause-work_slices : goal.returns-in-Found-clause-work_slices
-returns-in-Found-clause-work_slices c =
-    (refused_by_lent _ _ _ c.args.book.now _ _ c.args.hour c.args.buffer.now (slices c.args.lower.now c.args.upper.now c.args.marks.now)
-    _ c.judge-standing.ensures _ c.in-Ready.is _ c.judge_lent-found.ensures _ c.in-Found.is).1.1.0
-
-pub returns-in_default-clause-value : goal.returns-in_default-clause-value
-returns-in_default-clause-value c =
-    (answered_all _ _ _ c.args.book.now _ _ c.args.hour c.args.buffer.now (slices c.args.lower.now c.args.upper.now c.args.marks.now)
+pub returns-in_default : goal.returns-in_default
+returns-in_default c =
+    let all =
+    answered_all _ _ _ c.args.book.now _ _ c.args.hour c.args.buffer.now
+    (slices c.args.lower.now c.args.upper.now c.args.marks.now)
     _ c.judge-standing.ensures _ c.in-Ready.is _ c.judge_lent-found.ensures c.in_default.is
-    _ c.write_sheet.ensures _ c.question.ensures.value _ c.question.ensures.work_slices c.question.ensures.promises_kept).0
-
-pub returns-in_default-clause-buffer_after : goal.returns-in_default-clause-buffer_after
-returns-in_default-clause-buffer_after c =
-    (answered_all _ _ _ c.args.book.now _ _ c.args.hour c.args.buffer.now (slices c.args.lower.now c.args.upper.now c.args.marks.now)
-    _ c.judge-standing.ensures _ c.in-Ready.is _ c.judge_lent-found.ensures c.in_default.is
-    _ c.write_sheet.ensures _ c.question.ensures.value _ c.question.ensures.work_slices c.question.ensures.promises_kept).1.0
-
-pub returns-in_default-clause-work_slices : goal.returns-in_default-clause-work_slices
-returns-in_default-clause-work_slices c =
-    (answered_all _ _ _ c.args.book.now _ _ c.args.hour c.args.buffer.now (slices c.args.lower.now c.args.upper.now c.args.marks.now)
-    _ c.judge-standing.ensures _ c.in-Ready.is _ c.judge_lent-found.ensures c.in_default.is
-    _ c.write_sheet.ensures _ c.question.ensures.value _ c.question.ensures.work_slices c.question.ensures.promises_kept).1.1.0
-
-pub returns-in_default-clause-promises_kept : goal.returns-in_default-clause-promises_kept
-returns-in_default-clause-promises_kept c =
-    (answered_all _ _ _ c.args.book.now _ _ c.args.hour c.args.buffer.now (slices c.args.lower.now c.args.upper.now c.args.marks.now)
-    _ c.judge-standing.ensures _ c.in-Ready.is _ c.judge_lent-found.ensures c.in_default.is
-    _ c.write_sheet.ensures _ c.question.ensures.value _ c.question.ensures.work_slices c.question.ensures.promises_kept).1.1.1
+    _ c.write_sheet.ensures _ c.question.ensures.value _ c.question.ensures.work_slices
+    c.question.ensures.promises_kept in
+    record {
+      value = all.0;
+      buffer_after = all.1.0;
+      work_slices = all.1.1.0;
+      promises_kept = all.1.1.1;
+    }
