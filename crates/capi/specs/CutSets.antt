@@ -1,9 +1,8 @@
 -- What counting and listing minimal cut sets answer C, and what a listing leaves in the lent slice.
-use Rattle.std.specs.Prelude.{ℕ, ◌≡◌, List}
+use Rattle.std.specs.Prelude.{ℕ, ◌≡◌, List, Result, Ok, Err}
+use Rattle.refusals.specs.declared.refusal.Refusal.{Refusal as Reason}
 use Rattle.monitor.specs.declared.state.State.{State as Held}
 use Rattle.cut_sets.specs.Listed.{SetsLeft}
-use Rattle.cut_sets.specs.declared.outcome.Outcome.{Outcome}
-use Rattle.cut_sets.specs.declared.outcome.Outcome.TheVariants.{Counted, Refused}
 use Rattle.cut_sets.specs.declared.list.Reply.{Reply}
 use Rattle.capi.specs.State.{state_of}
 use Rattle.capi.specs.Refusal.{not_refused, refused_by}
@@ -11,12 +10,12 @@ use Rattle.capi.specs.declared.minimal_cut_sets.SetCount.{SetCount}
 use Rattle.capi.specs.declared.minimal_cut_sets.Listing.{Listing}
 
 -- The number of minimal cut sets, or the refusal with 0.
-abbrev pub count_for : Outcome → SetCount
-count_for (Counted n) = record { refusal = not_refused; count = n }
-count_for (Refused reason) = record { refusal = refused_by reason; count = 0 }
+abbrev pub count_for : Result ℕ Reason → SetCount
+count_for (Ok n) = record { refusal = not_refused; count = n }
+count_for (Err reason) = record { refusal = refused_by reason; count = 0 }
 
 -- The state after the listing, beside what a count of that outcome answers.
-abbrev pub listing_by : Held → Outcome → Listing
+abbrev pub listing_by : Held → Result ℕ Reason → Listing
 listing_by held outcome =
     record {
       state = state_of held;
@@ -31,6 +30,6 @@ listing_for reply = listing_by reply.state reply.outcome
 -- The lent slice after a listing, by the number that C reads in the answer.
 pub record SliceLeft (listing : Listing) (tree before after : List ℕ) : Type 0 where
   -- number 0: the sets of the held tree, as many as counted, and the places behind them as they were
-  pub listed : listing.refusal.number ≡ 0 → SetsLeft (Counted listing.count) tree before after
+  pub listed : listing.refusal.number ≡ 0 → SetsLeft (Ok listing.count) tree before after
   -- any other number: every place as it was
   pub unchanged : (listing.refusal.number ≡ 0 → ⊥) → after ≡ before

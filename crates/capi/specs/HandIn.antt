@@ -1,16 +1,14 @@
 -- What a hand-in answers C.
+use Rattle.refusals.specs.FirstFault.{FirstFault}
 use Rattle.monitor.specs.declared.state.State.{State as Held}
-use Rattle.monitor.specs.declared.hand_in.Verdict.{Verdict}
-use Rattle.monitor.specs.declared.hand_in.Verdict.TheVariants.{Accepted, Refused}
 use Rattle.monitor.specs.declared.hand_in.Answer.{Answer as Answered}
 use Rattle.capi.specs.State.{state_of}
-use Rattle.capi.specs.Refusal.{not_refused, refused_by}
+use Rattle.capi.specs.Refusal.{refusal_in}
 use Rattle.capi.specs.declared.hand_in.Answer.{Answer}
 
--- The state after the hand-in, and the refusal of the verdict.
-abbrev pub answer_by : Held → Verdict → Answer
-answer_by held Accepted = record { state = state_of held; refusal = not_refused }
-answer_by held (Refused reason) = record { state = state_of held; refusal = refused_by reason }
+-- The state after a hand-in or a mirroring, and the refusal of what it came to.
+abbrev pub answer_by : Held → FirstFault → Answer
+answer_by held verdict = record { state = state_of held; refusal = refusal_in verdict }
 
 -- The answer of the monitor for C.
 abbrev pub answer_for : Answered → Answer

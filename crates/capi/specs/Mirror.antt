@@ -3,21 +3,13 @@ use Rattle.std.specs.Prelude.{ℕ, ◌≡◌, List}
 use Rattle.theory.specs.Unit.{billion}
 use Rattle.monitor.specs.declared.state.State.{State as Held}
 use Rattle.mirror.specs.Law.{Law}
-use Rattle.mirror.specs.declared.mirror.Outcome.{Outcome}
-use Rattle.mirror.specs.declared.mirror.Outcome.TheVariants.{Mirrored, Refused}
 use Rattle.mirror.specs.declared.mirror.Reply.{Reply}
-use Rattle.capi.specs.State.{state_of}
-use Rattle.capi.specs.Refusal.{not_refused, refused_by}
+use Rattle.capi.specs.HandIn.{answer_by}
 use Rattle.capi.specs.declared.hand_in.Answer.{Answer}
-
--- The state after the mirroring, and the refusal of its outcome.
-abbrev pub mirror_answer_by : Held → Outcome → Answer
-mirror_answer_by held Mirrored = record { state = state_of held; refusal = not_refused }
-mirror_answer_by held (Refused reason) = record { state = state_of held; refusal = refused_by reason }
 
 -- The mirror's answer for C.
 abbrev pub mirror_answer_for : Reply → Answer
-mirror_answer_for reply = mirror_answer_by reply.state reply.outcome
+mirror_answer_for reply = answer_by reply.state reply.outcome
 
 -- Of every answer whose number is 0: mirror's `Law` of the two stores and the two buffers after it.
 abbrev pub LawKept : Answer → Held → List ℕ → List ℕ → List ℕ → List ℕ → Type 0

@@ -1,20 +1,19 @@
 -- What a question answers C, and demands 2 and 3 of that reply.
-use Rattle.std.specs.Prelude.{ℕ, ◌≡◌, false, List}
+use Rattle.std.specs.Prelude.{ℕ, ◌≡◌, false, List, Result, Ok, Err}
+use Rattle.refusals.specs.declared.refusal.Refusal.{Refusal as Reason}
 use Rattle.theory.specs.Unit.{billion}
 use Rattle.evaluation.specs.Slices.{Slices}
 use Rattle.monitor.specs.Promise.{Kept}
 use Rattle.monitor.specs.declared.state.State.{State as Held}
 use Rattle.monitor.specs.declared.question.Report.{Report}
-use Rattle.monitor.specs.declared.question.Outcome.{Outcome}
-use Rattle.monitor.specs.declared.question.Outcome.TheVariants.{Answered, Refused}
 use Rattle.monitor.specs.declared.question.Reply.{Reply as Replied}
 use Rattle.capi.specs.State.{state_of}
 use Rattle.capi.specs.Refusal.{not_refused, refused_by}
 use Rattle.capi.specs.declared.question.Reply.{Reply}
 
 -- The root's results and E where the question is answered. Refused, the enclosure that says nothing: 0 to 1, unmarked.
-abbrev pub reply_by : Held → Outcome → Reply
-reply_by held (Answered report) = record {
+abbrev pub reply_by : Held → Result Report Reason → Reply
+reply_by held (Ok report) = record {
   state = state_of held;
   refusal = not_refused;
   lower = report.ends.lower.value;
@@ -23,7 +22,7 @@ reply_by held (Answered report) = record {
   upper_exact = report.ends.upper.exact;
   events = report.events;
 }
-reply_by held (Refused reason) = record {
+reply_by held (Err reason) = record {
   state = state_of held;
   refusal = refused_by reason;
   lower = 0;

@@ -1,10 +1,11 @@
 -- What judging a level answers C.
-use Rattle.monitor.specs.declared.held.Standing.{Standing as Judged}
-use Rattle.monitor.specs.declared.held.Standing.TheVariants.{Ready, Refused}
+use Rattle.std.specs.Prelude.{Result, Ok, Err}
+use Rattle.refusals.specs.declared.refusal.Refusal.{Refusal as Reason}
+use Rattle.tree_file.specs.declared.judgement.Counts.{Counts}
 use Rattle.capi.specs.Refusal.{not_refused, refused_by}
 use Rattle.capi.specs.declared.judge.Standing.{Standing}
 
 -- The held tree's nodes and basic events, or the refusal with both 0: no tree that is ready has none of either.
-abbrev pub standing_for : Judged → Standing
-standing_for (Ready counts) = record { refusal = not_refused; nodes = counts.nodes; events = counts.events }
-standing_for (Refused reason) = record { refusal = refused_by reason; nodes = 0; events = 0 }
+abbrev pub standing_for : Result Counts Reason → Standing
+standing_for (Ok counts) = record { refusal = not_refused; nodes = counts.nodes; events = counts.events }
+standing_for (Err reason) = record { refusal = refused_by reason; nodes = 0; events = 0 }

@@ -7,12 +7,14 @@ ghost use Rattle.work_windows.specs.Question.{buffer_left, hour_reply, hour_slic
 ghost use Rattle.capi.specs.State.{held_of};
 ghost use Rattle.capi.specs.Question.{reply_for, PromisesKept};
 
-use crate::question::{Reply, reply_by};
-use crate::state::{State, held_state};
+use crate::question::Reply;
+use crate::state::State;
+use evaluation::slices::WorkSlices;
 use work_windows::question::question_at_hour;
 
 // Questions level k of n at an hour: the hour's sheet is written to the buffer. The last promise is demands 2 and 3 of
 // that sheet, of the reply and of every node's place in the slices.
+#[tactic(auto, using(crate::proofs::Kept::kept_by))]
 pub fn nekbrod_question_at_hour(
     state: State,
     tree_store: &[u8],
@@ -39,8 +41,13 @@ pub fn nekbrod_question_at_hour(
         (written_sheet (held_sheet (held_of state) sheet_store.now) book.now hour) k n
         (slices lower.new upper.new marks.new) }
 {
-    let reply = question_at_hour(
-        held_state(state),
+    let mut slices = WorkSlices {
+        lower,
+        upper,
+        marks,
+    };
+    question_at_hour(
+        state.into(),
         tree_store,
         sheet_store,
         book,
@@ -48,10 +55,7 @@ pub fn nekbrod_question_at_hour(
         n,
         hour,
         buffer,
-        lower,
-        upper,
-        marks,
-    );
-    let outcome = reply.outcome;
-    reply_by(reply.state, outcome)
+        &mut slices,
+    )
+    .into()
 }

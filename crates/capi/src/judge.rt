@@ -4,12 +4,14 @@ ghost use Rattle.monitor.specs.Standing.{standing_of};
 ghost use Rattle.capi.specs.State.{held_of};
 ghost use Rattle.capi.specs.Standing.{standing_for};
 
-use crate::refusal::{Refusal, no_refusal, refusal_for};
-use crate::state::{State, held_state};
-use monitor::held::Standing as Judged;
+use crate::refusal::Refusal;
+use crate::state::State;
 use monitor::judge::judge;
+use refusals::refusal::Refusal as Reason;
+use tree_file::judgement::Counts;
 
 // Why the question would be refused, if it would; else the held tree's nodes (N) and basic events (E).
+// The C interface has no Result: number 0 in the refusal says Ok.
 #[repr(C)]
 #[derive(Clone, Copy)]
 pub struct Standing {
@@ -19,20 +21,16 @@ pub struct Standing {
 }
 
 // The standing that the monitor found.
-fn standing_for(judged: Judged) -> Standing
-    ensures { result ≡ standing_for judged }
-{
-    match judged {
-        Judged::Ready(counts) => Standing {
-            refusal: no_refusal(),
-            nodes: counts.nodes,
-            events: counts.events,
-        },
-        Judged::Refused(reason) => Standing {
-            refusal: refusal_for(reason),
-            nodes: 0,
-            events: 0,
-        },
+impl From<Result<Counts, Reason>> for Standing {
+    ghost from_gives = { λ judged standing. standing ≡ standing_for judged };
+
+    fn from(judged: Result<Counts, Reason>) -> Standing {
+        let (nodes, events) = judged.map_or((0, 0), |counts| (counts.nodes, counts.events));
+        Standing {
+            refusal: judged.into(),
+            nodes,
+            events,
+        }
     }
 }
 
@@ -47,5 +45,5 @@ pub fn nekbrod_judge(
     ensures { result ≡ standing_for
         (standing_of (held_of state) tree_store.now sheet_store.now k n) }
 {
-    standing_for(judge(held_state(state), tree_store, sheet_store, k, n))
+    judge(state.into(), tree_store, sheet_store, k, n).into()
 }

@@ -1,4 +1,5 @@
 // The monitor's calls for C and Rust: numbers, lent slices and structs by value. capi_c exports them.
+// The C interface fixes their parameters: a level is two numbers, the work slices are three.
 #![tactic(auto)]
 
 pub mod hand_in;

@@ -3,16 +3,16 @@ ghost use Rattle.std.specs.Prelude.{◌≡◌, length};
 ghost use Rattle.monitor.specs.Standing.{held_tree};
 ghost use Rattle.cut_sets.specs.Judged.{count_outcome, reply_of};
 ghost use Rattle.capi.specs.State.{held_of};
-ghost use Rattle.capi.specs.CutSets.{count_for, listing_by, listing_for, SliceLeft};
+ghost use Rattle.capi.specs.CutSets.{count_for, listing_for, SliceLeft};
 
-use crate::refusal::{Refusal, no_refusal, refusal_for};
-use crate::state::{State, held_state, lengths};
+use crate::refusal::Refusal;
+use crate::state::State;
 use cut_sets::count::count_sets;
-use cut_sets::list::list_sets;
-use cut_sets::outcome::Outcome;
-use monitor::state::State as Held;
+use cut_sets::list::{Reply, list_sets};
+use refusals::refusal::Refusal as Reason;
 
 // What counting answers: why it was refused, if it was, and the number of minimal cut sets, 0 where refused.
+// The C interface has no Result: number 0 in the refusal says Ok.
 #[repr(C)]
 #[derive(Clone, Copy)]
 pub struct SetCount {
@@ -21,6 +21,7 @@ pub struct SetCount {
 }
 
 // What listing answers: the state, unchanged; why it was refused, if it was; and the number of sets, 0 where refused.
+// The C interface has no Result: number 0 in the refusal says Ok.
 #[repr(C)]
 #[derive(Clone, Copy)]
 pub struct Listing {
@@ -30,31 +31,28 @@ pub struct Listing {
 }
 
 // The answer for C of a count.
-fn count_for(outcome: Outcome) -> SetCount
-    ensures { result ≡ count_for outcome }
-{
-    match outcome {
-        Outcome::Counted(count) => SetCount {
-            refusal: no_refusal(),
-            count,
-        },
-        Outcome::Refused(reason) => SetCount {
-            refusal: refusal_for(reason),
-            count: 0,
-        },
+impl From<Result<u64, Reason>> for SetCount {
+    ghost from_gives = { λ outcome answer. answer ≡ count_for outcome };
+
+    fn from(outcome: Result<u64, Reason>) -> SetCount {
+        SetCount {
+            refusal: outcome.into(),
+            count: outcome.unwrap_or(0),
+        }
     }
 }
 
-// The answer for C of a listing's state and outcome.
-fn listing_by(held: Held, outcome: Outcome) -> Listing
-    ensures { result ≡ listing_by held outcome }
-{
-    let counted = count_for(outcome);
-    let refusal = counted.refusal;
-    Listing {
-        state: lengths(held),
-        refusal,
-        count: counted.count,
+// The answer for C of a listing.
+impl From<Reply> for Listing {
+    ghost from_gives = { λ reply listing. listing ≡ listing_for reply };
+
+    fn from(reply: Reply) -> Listing {
+        let SetCount { refusal, count } = reply.outcome.into();
+        Listing {
+            state: reply.state.into(),
+            refusal,
+            count,
+        }
     }
 }
 
@@ -62,17 +60,16 @@ fn listing_by(held: Held, outcome: Outcome) -> Listing
 pub fn nekbrod_count_cut_sets(state: State, tree_store: &[u8]) -> SetCount
     ensures { result ≡ count_for (count_outcome (held_of state) tree_store.now) }
 {
-    count_for(count_sets(held_state(state), tree_store))
+    count_sets(state.into(), tree_store).into()
 }
 
 // Lists the minimal cut sets of the held tree in the lent slice: refusals 21, 23, 26 and 27, or their number.
+#[tactic(auto, using(crate::proofs::SliceLeft::left_by))]
 pub fn nekbrod_list_cut_sets(state: State, tree_store: &[u8], sets: &mut [u64]) -> Listing
     ensures value { result ≡ listing_for
         (reply_of (held_of state) tree_store.now (length sets.old)) }
     ensures slice_left { SliceLeft result (held_tree (held_of state) tree_store.now)
         sets.old sets.new }
 {
-    let reply = list_sets(held_state(state), tree_store, sets);
-    let outcome = reply.outcome;
-    listing_by(reply.state, outcome)
+    list_sets(state.into(), tree_store, sets).into()
 }

@@ -4,16 +4,18 @@ ghost use Rattle.evaluation.specs.Slices.{slices};
 ghost use Rattle.monitor.specs.Standing.{held_tree, held_sheet};
 ghost use Rattle.monitor.specs.Question.{reply_of, slices_left};
 ghost use Rattle.capi.specs.State.{held_of};
-ghost use Rattle.capi.specs.Question.{reply_by, reply_for, PromisesKept};
+ghost use Rattle.capi.specs.Question.{reply_for, PromisesKept};
 
-use crate::refusal::{Refusal, no_refusal, refusal_for};
-use crate::state::{State, held_state, lengths};
-use monitor::question::{Outcome, question};
-use monitor::state::State as Held;
+use crate::refusal::Refusal;
+use crate::state::State;
+use evaluation::slices::WorkSlices;
+use monitor::question::{Reply as Replied, Report, question};
+use rounding::end::{Enclosure, End};
 use rounding::unit::UNIT;
 
 // What a question answers: the state, unchanged; why it was refused, if it was; the root's ends in units, each with its
 // mark, and the number of basic events (E). Refused, it has the enclosure that says nothing: 0 to 1, unmarked.
+// The C interface has no Result: number 0 in the refusal says Ok.
 #[repr(C)]
 #[derive(Clone, Copy)]
 pub struct Reply {
@@ -26,34 +28,43 @@ pub struct Reply {
     pub events: usize,
 }
 
-// The reply for C of the monitor's state and outcome.
-pub fn reply_by(held: Held, outcome: Outcome) -> Reply
-    ensures { result ≡ reply_by held outcome }
-{
-    let state = lengths(held);
-    match outcome {
-        Outcome::Answered(report) => Reply {
+// The report that says nothing: 0 to 1, unmarked.
+const NOTHING_SAID: Report = Report {
+    ends: Enclosure {
+        lower: End {
+            value: 0,
+            exact: false,
+        },
+        upper: End {
+            value: UNIT as u32,
+            exact: false,
+        },
+    },
+    events: 0,
+};
+
+// The reply of the monitor for C.
+impl From<Replied> for Reply {
+    ghost from_gives = { λ replied reply. reply ≡ reply_for replied };
+
+    fn from(replied: Replied) -> Reply {
+        let state = replied.state.into();
+        let refusal = replied.outcome.into();
+        let report = replied.outcome.unwrap_or(NOTHING_SAID);
+        Reply {
             state,
-            refusal: no_refusal(),
+            refusal,
             lower: report.ends.lower.value,
             upper: report.ends.upper.value,
             lower_exact: report.ends.lower.exact,
             upper_exact: report.ends.upper.exact,
             events: report.events,
-        },
-        Outcome::Refused(reason) => Reply {
-            state,
-            refusal: refusal_for(reason),
-            lower: 0,
-            upper: UNIT as u32,
-            lower_exact: false,
-            upper_exact: false,
-            events: 0,
-        },
+        }
     }
 }
 
 // Questions level k of n. The last promise is demands 2 and 3, of the reply and of every node's place in the slices.
+#[tactic(auto, using(crate::proofs::Kept::kept_by))]
 pub fn nekbrod_question(
     state: State,
     tree_store: &[u8],
@@ -74,16 +85,10 @@ pub fn nekbrod_question(
         (held_sheet (held_of state) sheet_store.now) k n
         (slices lower.new upper.new marks.new) }
 {
-    let reply = question(
-        held_state(state),
-        tree_store,
-        sheet_store,
-        k,
-        n,
+    let mut slices = WorkSlices {
         lower,
         upper,
         marks,
-    );
-    let outcome = reply.outcome;
-    reply_by(reply.state, outcome)
+    };
+    question(state.into(), tree_store, sheet_store, k, n, &mut slices).into()
 }

@@ -1,11 +1,11 @@
 // A refusal as C gets it.
 ghost use Rattle.std.specs.Prelude.{◌≡◌};
-ghost use Rattle.capi.specs.Refusal.{not_refused, refused_by};
+ghost use Rattle.capi.specs.Refusal.{refused_by, refusal_in};
 
 use refusals::refusal::Refusal as Reason;
-use refusals::rule::rule_number;
 
 // Document 01's number and place, both 0 where the call was not refused: no rule has number 0.
+// The C interface has no Result: number 0 says Ok, here and in each struct that holds a refusal.
 #[repr(C)]
 #[derive(Clone, Copy)]
 pub struct Refusal {
@@ -13,23 +13,29 @@ pub struct Refusal {
     pub place: usize,
 }
 
-// What a call says that was not refused.
-pub fn no_refusal() -> Refusal
-    ensures { result ≡ not_refused }
-{
-    Refusal {
-        number: 0,
-        place: 0,
+// The number and the place of a refusal.
+impl From<Reason> for Refusal {
+    ghost from_gives = { λ reason refusal. refusal ≡ refused_by reason };
+
+    fn from(reason: Reason) -> Refusal {
+        Refusal {
+            number: reason.rule.number(),
+            place: reason.place,
+        }
     }
 }
 
-// The number and the place of a refusal.
-pub fn refusal_for(reason: Reason) -> Refusal
-    ensures { result ≡ refused_by reason }
-{
-    let rule = reason.rule;
-    Refusal {
-        number: rule_number(rule),
-        place: reason.place,
+// The refusal of a call by what it comes to: 0 and 0 where that is an Ok.
+impl<T: Copy> From<Result<T, Reason>> for Refusal {
+    ghost from_gives = { λ outcome refusal. refusal ≡ refusal_in outcome };
+
+    fn from(outcome: Result<T, Reason>) -> Refusal {
+        match outcome {
+            Ok(_) => Refusal {
+                number: 0,
+                place: 0,
+            },
+            Err(reason) => reason.into(),
+        }
     }
 }

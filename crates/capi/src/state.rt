@@ -13,21 +13,25 @@ pub struct State {
 }
 
 // The monitor's state of these lengths.
-pub fn held_state(state: State) -> Held
-    ensures { result ≡ held_of state }
-{
-    Held {
-        tree_len: state.tree_len,
-        sheet_len: state.sheet_len,
+impl From<State> for Held {
+    ghost from_gives = { λ state held. held ≡ held_of state };
+
+    fn from(state: State) -> Held {
+        Held {
+            tree_len: state.tree_len,
+            sheet_len: state.sheet_len,
+        }
     }
 }
 
 // The lengths that a state of the monitor has.
-pub fn lengths(held: Held) -> State
-    ensures { result ≡ state_of held }
-{
-    State {
-        tree_len: held.tree_len,
-        sheet_len: held.sheet_len,
+impl From<Held> for State {
+    ghost from_gives = { λ held state. state ≡ state_of held };
+
+    fn from(held: Held) -> State {
+        State {
+            tree_len: held.tree_len,
+            sheet_len: held.sheet_len,
+        }
     }
 }

@@ -2,33 +2,15 @@
 ghost use Rattle.std.specs.Prelude.{◌≡◌};
 ghost use Rattle.mirror.specs.Mirror.{reply_of, sheet_left, tree_left};
 ghost use Rattle.capi.specs.State.{held_of};
-ghost use Rattle.capi.specs.Mirror.{mirror_answer_by, mirror_answer_for, LawKept};
+ghost use Rattle.capi.specs.Mirror.{mirror_answer_for, LawKept};
 
 use crate::hand_in::Answer;
-use crate::refusal::{no_refusal, refusal_for};
-use crate::state::{State, held_state, lengths};
-use mirror::mirror::{Outcome, mirror};
-use monitor::state::State as Held;
-
-// The answer for C of the mirror's state and outcome.
-fn mirror_answer_by(held: Held, outcome: Outcome) -> Answer
-    ensures { result ≡ mirror_answer_by held outcome }
-{
-    let state = lengths(held);
-    match outcome {
-        Outcome::Mirrored => Answer {
-            state,
-            refusal: no_refusal(),
-        },
-        Outcome::Refused(reason) => Answer {
-            state,
-            refusal: refusal_for(reason),
-        },
-    }
-}
+use crate::state::State;
+use mirror::mirror::mirror;
 
 // Writes the mirror of the held pair to the fronts of the two buffers. The last promise is De Morgan's law on what is
 // reported of the two pairs.
+#[tactic(auto, using(crate::proofs::LawKept::law_kept_by))]
 pub fn nekbrod_mirror(
     state: State,
     tree_store: &[u8],
@@ -46,12 +28,14 @@ pub fn nekbrod_mirror(
         tree_buffer.new sheet_buffer.new }
 {
     let reply = mirror(
-        held_state(state),
+        state.into(),
         tree_store,
         sheet_store,
         tree_buffer,
         sheet_buffer,
     );
-    let outcome = reply.outcome;
-    mirror_answer_by(reply.state, outcome)
+    Answer {
+        state: reply.state.into(),
+        refusal: reply.outcome.into(),
+    }
 }

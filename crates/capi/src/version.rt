@@ -6,5 +6,5 @@ ghost use Rattle.capi.specs.Version.{version};
 pub fn nekbrod_version() -> u32
     ensures { result ≡ version }
 {
-    1792
+    u32::from_be_bytes([0, 0, 7, 0])
 }

@@ -1,4 +1,5 @@
 // The C library: the calls of capi under the names of include/nekbrod.h, with its clauses.
+// The C interface needs each signature and clause again: only an exported function has a C name.
 #![tactic(auto)]
 
 mod hand_in;

@@ -4,17 +4,15 @@
 
 mod answer;
 mod line;
-mod print;
 
-use program_text::read::read_full;
+use program_text::no_answer::tell;
 
 fn main(rt: HostRuntime) {
-    // Of a longer input its first 65,536 bytes are judged, which are too long for any tree file.
-    let mut file = [0u8; 65536];
-    let length = read_full(&rt, &mut file);
-    let mut store = [0u8; 7175];
-    let written = answer::print_file(&rt, &file[..length], &mut store);
-    if !written {
-        let _ = eprintln!(rt; "cut_set_lines: the text could not be written");
+    if let Err(no_answer) = answer::print_answer(&rt) {
+        tell(
+            &rt,
+            no_answer,
+            "cut_set_lines: the text could not be written",
+        );
     }
 }

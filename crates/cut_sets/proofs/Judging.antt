@@ -5,11 +5,11 @@ use mathlib.Core.List.{List, [], ◌∷◌}
 use native.Mathlib.Omega.{arith}
 use lib.ListN.{length}
 use borrow.Author.Tests.{le-leb, lt-leb, leb-true}
-use Rattle.refusals.specs.FirstFault.{◌or_else◌, first_of}
+use Rattle.refusals.specs.FirstFault.{FirstFault, ◌or_else◌, first_of}
+use Rattle.refusals.specs.Order.{refusal}
 use Rattle.refusals.specs.declared.rule.Rule.TheVariants.{ManyEvents}
 use Rattle.refusals.specs.declared.refusal.Refusal.{Refusal}
-use Rattle.refusals.specs.declared.refusal.FirstFault.{FirstFault}
-use Rattle.refusals.specs.declared.refusal.FirstFault.TheVariants.{Found, Absent}
+use Rattle.std.specs.Prelude.{Result, Ok, Err}
 use Rattle.refusals.proofs.FirstFault.{first_of_absent, first_of_append, unless_holds}
 use Rattle.tree_file.specs.Judged.{fault_of as tree_fault, counts_of as tree_counts}
 use Rattle.tree_file.specs.declared.judgement.Counts.{Counts}
@@ -17,9 +17,7 @@ use Rattle.tree_file.proofs.Accepted.{accepted_well_formed}
 use Rattle.monitor.specs.Standing.{held_tree, tree_rules, tree_standing}
 use Rattle.monitor.specs.Question.{root}
 use Rattle.monitor.specs.declared.state.State.{State}
-use Rattle.monitor.specs.declared.held.Standing.{Standing}
-use Rattle.monitor.specs.declared.held.Standing.TheVariants.{Ready, Refused}
-use Rattle.monitor.proofs.Standing.{ready_absent, standing_found}
+use Rattle.refusals.proofs.FirstFault.{accepted_absent, refused_found}
 use Rattle.monitor.proofs.Ready.{unchanged}
 use Rattle.node_sets.specs.Numbers.{most_events}
 use Rattle.node_sets.specs.Requirements.{Small}
@@ -37,34 +35,34 @@ module _ (state : State) (tree_store : List ℕ) where
       first_of_append (tree_rules state tree_store) (many_events tree ∷ [])
       ∙ ap (λ (f : FirstFault). f or_else first_of (many_events tree ∷ [])) e
 
-  module _ (found : Standing) (e : found ≡ tree_standing state tree_store) where
+  module _ (found : Result Counts Refusal) (e : found ≡ tree_standing state tree_store) where
     -- 21 and 23
-    pub tree_refused : (r : Refusal) → found ≡ Refused r
-        → found ≡ count_standing state tree_store
+    pub tree_refused : (r : Refusal) → found ≡ Err r
+        → Err r ≡ count_standing state tree_store
     unfolding tree_standing count_standing
-    tree_refused r q = q ∙ sym (rw (fault_is (Found r) (standing_found _ _ r (sym e ∙ q))))
+    tree_refused r q = rw (fault_is (Err r) (refused_found _ _ r (sym e ∙ q)))
 
-    module _ (counts : Counts) (q : found ≡ Ready counts) where
+    module _ (counts : Counts) (q : found ≡ Ok counts) where
       -- the tree is without a fault, and the counts are its own
-      ready_own : (first_of (tree_rules state tree_store) ≡ Absent) × (counts ≡ tree_counts tree)
+      ready_own : (first_of (tree_rules state tree_store) ≡ Ok tt) × (counts ≡ tree_counts tree)
       unfolding tree_standing
-      ready_own = ready_absent _ _ counts (sym e ∙ q)
+      ready_own = accepted_absent _ _ counts (sym e ∙ q)
 
       -- ready with at most 64 events
       pub events_few : counts.events ≤ most_events
-          → Ready counts ≡ count_standing state tree_store
+          → Ok counts ≡ count_standing state tree_store
       unfolding count_standing
       events_few l =
           let few = le-leb (tree_counts tree).events most_events (rw ready_own.1 at l) in
-          rw (fault_is Absent ready_own.0, few) (ap Ready ready_own.1)
+          rw (fault_is (Ok tt) ready_own.0, few) (ap Ok ready_own.1)
 
       -- 26
-      pub events_many : most_events < counts.events
-          → Refused (record { rule = ManyEvents; place = 0 }) ≡ count_standing state tree_store
+      pub events_many : (r : Refusal) → r ≡ refusal ManyEvents 0 → most_events < counts.events
+          → Err r ≡ count_standing state tree_store
       unfolding count_standing
-      events_many l =
+      events_many r re l =
           let many = lt-leb (tree_counts tree).events most_events (rw ready_own.1 at l) in
-          rw (fault_is Absent ready_own.0, many)
+          rw (re, fault_is (Ok tt) ready_own.0, many)
 
 -- A tree whose sets can be counted: it is inside its store, small, and the counts are its own.
 pub record ReadyTree (state : State) (tree_store : List ℕ) (counts : Counts) : Type 0 where
@@ -73,11 +71,11 @@ pub record ReadyTree (state : State) (tree_store : List ℕ) (counts : Counts) :
   pub counts_is : counts ≡ tree_counts (held_tree state tree_store)
 
 module _ (state : State) (tree_store : List ℕ) (counts : Counts)
-    (e : count_standing state tree_store ≡ Ready counts) where
+    (e : count_standing state tree_store ≡ Ok counts) where
   pub ready_tree : ReadyTree state tree_store counts
   unfolding count_standing
   ready_tree =
-      let own = ready_absent _ _ counts e in
+      let own = accepted_absent _ _ counts e in
       let absent = first_of_absent (count_rules state tree_store) own.0 in
       let file = held_tree state tree_store in
       let kept = unchanged 0 tree_fault state.tree_len tree_store absent.1.0 in

@@ -8,27 +8,23 @@ use lib.Seq.{ext_get_or, get_or-drop}
 use borrow.Author.Tests.{le-leb, lt-leb}
 use Rattle.theory.specs.MinimalCutSets.{Enumerates}
 use Rattle.theory.proofs.CutSetsEnumerated.{enumerates_same}
-use Rattle.refusals.specs.FirstFault.{◌or_else◌, first_of}
+use Rattle.refusals.specs.FirstFault.{FirstFault, ◌or_else◌, first_of, judged_by}
+use Rattle.refusals.specs.Order.{refusal}
 use Rattle.refusals.specs.declared.rule.Rule.TheVariants.{ShortList}
 use Rattle.refusals.specs.declared.refusal.Refusal.{Refusal}
-use Rattle.refusals.specs.declared.refusal.FirstFault.{FirstFault}
-use Rattle.refusals.specs.declared.refusal.FirstFault.TheVariants.{Found, Absent}
+use Rattle.std.specs.Prelude.{Result, Ok, Err}
 use Rattle.refusals.proofs.FirstFault.{first_of_append, or_else_absent}
 use Rattle.tree_file.specs.NodeTable.{fault_tree}
 use Rattle.tree_file.specs.declared.judgement.Counts.{Counts}
 use Rattle.monitor.specs.Standing.{held_tree}
 use Rattle.monitor.specs.Question.{root}
 use Rattle.monitor.specs.declared.state.State.{State}
-use Rattle.monitor.specs.declared.held.Standing.{Standing}
-use Rattle.monitor.specs.declared.held.Standing.TheVariants as standing
-use Rattle.monitor.proofs.Standing.{ready_absent, standing_found}
+use Rattle.refusals.proofs.FirstFault.{accepted_absent, refused_found}
 use Rattle.cut_sets.specs.Judged.{count_outcome, count_rules, count_standing, list_outcome, list_rules}
-use Rattle.cut_sets.specs.Judged.{outcome_by, reply_of, root_tree, set_count, short_list}
+use Rattle.cut_sets.specs.Judged.{root_tree, set_count, short_list}
 use Rattle.cut_sets.specs.Listed.{SetsLeft, listed}
 use Rattle.node_sets.specs.Requirements.{KeptFrom, Small, Written, node_sets}
 use Rattle.node_sets.proofs.Enumerated.{node_sets_enumerated}
-use Rattle.cut_sets.specs.declared.outcome.Outcome.{Outcome}
-use Rattle.cut_sets.specs.declared.outcome.Outcome.TheVariants.{Counted, Refused}
 use Rattle.cut_sets.proofs.Judging.{ReadyTree, ready_tree}
 
 -- what is kept place by place from n on is kept as a whole
@@ -43,19 +39,19 @@ kept_rest before after n kept same =
         rw (get_or-drop n after p 0, get_or-drop n before p 0)
         (kept (n + p) (omega arith) (omega (arith, length-drop n after)))
 
-module _ (state : State) (tree_store : List ℕ) (found : Standing)
+module _ (state : State) (tree_store : List ℕ) (found : Result Counts Refusal)
     (e : found ≡ count_standing state tree_store) where
   -- the tree file held
   abbrev tree : List ℕ
   tree = held_tree state tree_store
 
   -- the first fault of counting
-  count_fault : (r : Refusal) → found ≡ standing.Refused r → first_of (count_rules state tree_store) ≡ Found r
+  count_fault : (r : Refusal) → found ≡ Err r → first_of (count_rules state tree_store) ≡ Err r
   unfolding count_standing
-  count_fault r q = standing_found _ _ r (sym e ∙ q)
+  count_fault r q = refused_found _ _ r (sym e ∙ q)
 
   -- 21, 23 and 26 of counting
-  pub count_refused : (r : Refusal) → found ≡ standing.Refused r → Refused r ≡ count_outcome state tree_store
+  pub count_refused : (r : Refusal) → found ≡ Err r → Err r ≡ count_outcome state tree_store
   unfolding count_outcome
   count_refused r q = rw (count_fault r q)
 
@@ -67,19 +63,19 @@ module _ (state : State) (tree_store : List ℕ) (found : Standing)
       ∙ ap (λ (f : FirstFault). f or_else first_of (short_list (set_count tree) room ∷ [])) q
 
   -- 21, 23 and 26 of listing
-  pub list_refused : (room : ℕ) (r : Refusal) → found ≡ standing.Refused r
-      → record { state = state; outcome = Refused r } ≡ reply_of state tree_store room
+  pub list_refused : (room : ℕ) (r : Refusal) → found ≡ Err r
+      → Err r ≡ list_outcome state tree_store room
   unfolding list_outcome
-  list_refused room r q = rw (list_fault room (Found r) (count_fault r q))
+  list_refused room r q = rw (list_fault room (Err r) (count_fault r q))
 
-  module _ (counts : Counts) (q : found ≡ standing.Ready counts) where
+  module _ (counts : Counts) (q : found ≡ Ok counts) where
     -- what a tree that is ready is
     pub ready : ReadyTree state tree_store counts
     ready = ready_tree state tree_store counts (sym e ∙ q)
 
-    absent : first_of (count_rules state tree_store) ≡ Absent
+    absent : first_of (count_rules state tree_store) ≡ Ok tt
     unfolding count_standing
-    absent = (ready_absent _ _ counts (sym e ∙ q)).0
+    absent = (accepted_absent _ _ counts (sym e ∙ q)).0
 
     -- the root by the counts of the judging
     pub root_is : counts.nodes - 1 ≡ root tree
@@ -93,18 +89,17 @@ module _ (state : State) (tree_store : List ℕ) (found : Standing)
 
     -- counted
     pub count_answered : (n : ℕ) → n ≡ (node_sets tree (counts.nodes - 1)).count
-        → Counted n ≡ count_outcome state tree_store
+        → Ok n ≡ count_outcome state tree_store
     unfolding count_outcome
-    count_answered n t = rw (absent) (ap Counted (t ∙ ap (λ i. (node_sets tree i).count) root_is))
+    count_answered n t = rw (absent) (ap Ok (t ∙ ap (λ i. (node_sets tree i).count) root_is))
 
     -- listed, or refused by 27
-    pub list_answered : (room : ℕ) (o : Outcome) → o ≡ outcome_by (short_list (set_count tree) room) (set_count tree)
-        → record { state = state; outcome = o } ≡ reply_of state tree_store room
+    pub list_answered : (room : ℕ) (o : Result ℕ Refusal)
+        → o ≡ judged_by (short_list (set_count tree) room) (set_count tree) → o ≡ list_outcome state tree_store room
     unfolding list_outcome
     list_answered room o t =
-        ap (λ (o : Outcome). record { state = state; outcome = o })
-        (t ∙ ap (λ f. outcome_by f (set_count tree))
-        (sym (list_fault room Absent absent ∙ or_else_absent (short_list (set_count tree) room))))
+        t ∙ ap (λ f. judged_by f (set_count tree))
+        (sym (list_fault room (Ok tt) absent ∙ or_else_absent (short_list (set_count tree) room)))
 
 module _ {tree : List ℕ} {i : ℕ} (small : Small tree i) (at_root : i ≡ root tree) {count : ℕ}
     (counted : count ≡ (node_sets tree i).count) where
@@ -113,10 +108,10 @@ module _ {tree : List ℕ} {i : ℕ} (small : Small tree i) (at_root : i ≡ roo
   root_count = counted ∙ ap (λ i. (node_sets tree i).count) at_root
 
   -- what is written where there is room
-  pub list_written : (before after : List ℕ) → count ≤ length before → Written tree i before after
+  pub list_written : (before after : List ℕ) → count ≤ length before → Written (node_sets tree i) before after
       → length after ≡ length before
-      → (Counted count ≡ outcome_by (short_list (set_count tree) (length before)) (set_count tree))
-      × SetsLeft (Counted count) tree before after
+      → (Ok count ≡ judged_by (short_list (set_count tree) (length before)) (set_count tree))
+      × SetsLeft (Ok count) tree before after
   list_written before after l w n = (
     rw (← root_count, le-leb count (length before) l),
     record {
@@ -137,8 +132,7 @@ module _ {tree : List ℕ} {i : ℕ} (small : Small tree i) (at_root : i ≡ roo
       enumerated = subst (λ (n : ℕ). Enumerates (fault_tree tree n) (listed count after)) at_root node_enumerated
 
   -- 27
-  pub list_short : (before : List ℕ) → length before < count
-      → (Refused (record { rule = ShortList; place = 0 })
-      ≡ outcome_by (short_list (set_count tree) (length before)) (set_count tree))
-      × SetsLeft (Refused (record { rule = ShortList; place = 0 })) tree before before
-  list_short before l = (rw (← root_count, lt-leb count (length before) l), refl)
+  pub list_short : (q : Refusal) → q ≡ refusal ShortList 0 → (before : List ℕ) → length before < count
+      → (Err q ≡ judged_by (short_list (set_count tree) (length before)) (set_count tree))
+      × SetsLeft (Err q) tree before before
+  list_short q e before l = (rw (e, ← root_count, lt-leb count (length before) l), refl)

@@ -1,20 +1,17 @@
 -- What counting and listing answer: the rules of each call in their order, and the number of minimal cut sets.
-use Rattle.std.specs.Prelude.{ℕ, List, [], ◌∷◌, ◌++◌, leb}
+use Rattle.std.specs.Prelude.{ℕ, List, [], ◌∷◌, ◌++◌, leb, Result}
 use Rattle.theory.specs.FaultTree.{Tree}
 use Rattle.theory.specs.CutSetFamily.{family}
-use Rattle.refusals.specs.FirstFault.{unless, first_of}
+use Rattle.refusals.specs.FirstFault.{FirstFault, unless, first_of, judged_by}
+use Rattle.refusals.specs.declared.refusal.Refusal.{Refusal}
 use Rattle.refusals.specs.declared.rule.Rule.TheVariants.{ManyEvents, ShortList}
-use Rattle.refusals.specs.declared.refusal.FirstFault.{FirstFault}
-use Rattle.refusals.specs.declared.refusal.FirstFault.TheVariants.{Found, Absent}
+use Rattle.tree_file.specs.declared.judgement.Counts.{Counts}
 use Rattle.tree_file.specs.Tallies.{event_count}
 use Rattle.tree_file.specs.NodeTable.{fault_tree}
 use Rattle.monitor.specs.Standing.{held_tree, standing, tree_rules}
 use Rattle.monitor.specs.Question.{root}
 use Rattle.monitor.specs.declared.state.State.{State}
-use Rattle.monitor.specs.declared.held.Standing.{Standing}
 use Rattle.node_sets.specs.Numbers.{most_events}
-use Rattle.cut_sets.specs.declared.outcome.Outcome.{Outcome}
-use Rattle.cut_sets.specs.declared.outcome.Outcome.TheVariants.{Counted, Refused}
 use Rattle.cut_sets.specs.declared.list.Reply.{Reply}
 
 -- The tree of the root.
@@ -38,7 +35,7 @@ abbrev pub count_rules : State → List ℕ → List FirstFault
 count_rules state tree_store = tree_rules state tree_store ++ (many_events (held_tree state tree_store) ∷ [])
 
 -- Whether the sets can be counted: refused by the first of these, or ready with the tree's counts.
-unfoldable pub count_standing : State → List ℕ → Standing
+unfoldable pub count_standing : State → List ℕ → Result Counts Refusal
 count_standing state tree_store = standing (count_rules state tree_store) state tree_store
 
 -- The rules of listing into a slice of so many places: 21, 23 of the tree, 26, 27.
@@ -46,20 +43,15 @@ abbrev pub list_rules : State → List ℕ → ℕ → List FirstFault
 list_rules state tree_store room =
     count_rules state tree_store ++ (short_list (set_count (held_tree state tree_store)) room ∷ [])
 
--- Refused by the first fault, or the count.
-abbrev pub outcome_by : FirstFault → ℕ → Outcome
-outcome_by (Found r) count = Refused r
-outcome_by Absent count = Counted count
-
 -- What `count_sets` answers.
-unfoldable pub count_outcome : State → List ℕ → Outcome
+unfoldable pub count_outcome : State → List ℕ → Result ℕ Refusal
 count_outcome state tree_store =
-    outcome_by (first_of (count_rules state tree_store)) (set_count (held_tree state tree_store))
+    judged_by (first_of (count_rules state tree_store)) (set_count (held_tree state tree_store))
 
 -- The outcome of `list_sets` with a slice of so many places.
-unfoldable pub list_outcome : State → List ℕ → ℕ → Outcome
+unfoldable pub list_outcome : State → List ℕ → ℕ → Result ℕ Refusal
 list_outcome state tree_store room =
-    outcome_by (first_of (list_rules state tree_store room)) (set_count (held_tree state tree_store))
+    judged_by (first_of (list_rules state tree_store room)) (set_count (held_tree state tree_store))
 
 -- What `list_sets` answers: the state comes back as it was.
 abbrev pub reply_of : State → List ℕ → ℕ → Reply

@@ -1,11 +1,10 @@
 -- What listing leaves in the lent slice: every minimal cut set once and no other set, in whatever order, and the rest
 -- as it was.
-use Rattle.std.specs.Prelude.{ℕ, ◌≤◌, ◌≡◌, List, length, get_or, drop}
+use Rattle.std.specs.Prelude.{ℕ, ◌≤◌, ◌≡◌, List, length, get_or, drop, Result, Ok, Err}
 use Rattle.theory.specs.MinimalCutSets.{Family, Enumerates}
 use Rattle.node_sets.specs.Numbers.{members}
+use Rattle.refusals.specs.declared.refusal.Refusal.{Refusal}
 use Rattle.cut_sets.specs.Judged.{root_tree}
-use Rattle.cut_sets.specs.declared.outcome.Outcome.{Outcome}
-use Rattle.cut_sets.specs.declared.outcome.Outcome.TheVariants.{Counted, Refused}
 
 -- The sets that the first places hold. They lie within the slice (`room`), so the default 0 is never read.
 abbrev pub listed : ℕ → List ℕ → Family
@@ -21,6 +20,6 @@ pub record Listed (tree : List ℕ) (count : ℕ) (before after : List ℕ) : Ty
   pub length_kept : length after ≡ length before
 
 -- The slice after: listed, or as it was where the call is refused.
-abbrev pub SetsLeft : Outcome → List ℕ → List ℕ → List ℕ → Type 0
-SetsLeft (Counted n) tree before after = Listed tree n before after
-SetsLeft (Refused r) tree before after = after ≡ before
+abbrev pub SetsLeft : Result ℕ Refusal → List ℕ → List ℕ → List ℕ → Type 0
+SetsLeft (Ok n) tree before after = Listed tree n before after
+SetsLeft (Err r) tree before after = after ≡ before

@@ -6,30 +6,25 @@ ghost use Rattle.cut_sets.specs.Judged.{count_outcome};
 ghost use Rattle.node_sets.specs.Requirements.{Small};
 
 use crate::judge::judge_events;
-use crate::outcome::Outcome;
-use monitor::held::Standing;
 use monitor::state::State;
 use node_sets::counting::count_beneath;
+use refusals::refusal::Refusal;
+use tree_file::format::MAX_NODES;
 
 // The number of minimal cut sets of node i.
 fn count_at(tree: &[u8], i: usize) -> u64
     requires { Small tree.now i }
     ensures { result ≡ (family (fault_tree tree.now i)).count }
 {
-    let mut counts = [0u64; 1024];
+    let mut counts = [0u64; MAX_NODES];
     count_beneath(tree, i, &mut counts)
 }
 
 // The number of minimal cut sets of the held tree.
-pub fn count_sets(state: State, tree_store: &[u8]) -> Outcome
+pub fn count_sets(state: State, tree_store: &[u8]) -> Result<u64, Refusal>
     ensures { result ≡ count_outcome state tree_store.now }
 {
-    let standing = judge_events(state, tree_store);
-    match standing {
-        Standing::Refused(refusal) => Outcome::Refused(refusal),
-        Standing::Ready(counts) => {
-            let tree_len = state.tree_len;
-            Outcome::Counted(count_at(&tree_store[..tree_len], counts.nodes - 1))
-        }
-    }
+    let counts = judge_events(state, tree_store)?;
+    let tree = &tree_store[..state.tree_len];
+    Ok(count_at(tree, counts.nodes - 1))
 }

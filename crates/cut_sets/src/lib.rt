@@ -5,4 +5,3 @@
 pub mod count;
 mod judge;
 pub mod list;
-pub mod outcome;

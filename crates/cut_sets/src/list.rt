@@ -1,45 +1,60 @@
 // Listing the minimal cut sets of the held tree, each once and no other set, as 64-bit numbers.
 ghost use Rattle.std.specs.Prelude.{◌≡◌, length};
+ghost use Rattle.refusals.specs.FirstFault.{judged_by};
 ghost use Rattle.monitor.specs.Standing.{held_tree};
 ghost use Rattle.monitor.specs.Question.{root as root_of};
-ghost use Rattle.cut_sets.specs.Judged.{outcome_by, reply_of, set_count, short_list};
+ghost use Rattle.cut_sets.specs.Judged.{list_outcome, reply_of, set_count, short_list};
 ghost use Rattle.cut_sets.specs.Listed.{SetsLeft};
 ghost use Rattle.node_sets.specs.Requirements.{Small};
 
 use crate::judge::judge_events;
-use crate::outcome::Outcome;
-use monitor::held::Standing;
 use monitor::state::State;
+use node_sets::counted::{CountedNode, CountedTree};
 use node_sets::counting::count_beneath;
-use node_sets::writing::write_sets;
 use refusals::refusal::Refusal;
 use refusals::rule::Rule;
+use tree_file::format::MAX_NODES;
 
-// What listing answers: the state, unchanged, and the outcome.
-#[derive(Drop)]
+// What listing answers: the state, unchanged, and the number of sets.
+#[derive(Clone, Copy)]
 pub struct Reply {
     pub state: State,
-    pub outcome: Outcome,
+    pub outcome: Result<u64, Refusal>,
 }
 
 // Counts the sets of the root, and writes them where the slice has a place for each: refusal 27.
-fn listed(tree: &[u8], root: usize, sets: &mut [u64]) -> Outcome
+fn listed(tree: &[u8], root: usize, sets: &mut [u64]) -> Result<u64, Refusal>
     requires small { Small tree.now root }
     requires root_value { root ≡ root_of tree.now }
-    ensures value { result ≡ outcome_by (short_list (set_count tree.now) (length sets.old))
+    ensures value { result ≡ judged_by (short_list (set_count tree.now) (length sets.old))
         (set_count tree.now) }
     ensures sets_left { SetsLeft result tree.now sets.old sets.new }
 {
-    let mut counts = [0u64; 1024];
+    let mut counts = [0u64; MAX_NODES];
     let count = count_beneath(tree, root, &mut counts);
-    if count <= sets.len() as u64 {
-        write_sets(tree, root, &counts, sets);
-        return Outcome::Counted(count);
+    if (sets.len() as u64) < count {
+        return Err(Rule::ShortList.at(0));
     }
-    Outcome::Refused(Refusal {
-        rule: Rule::ShortList,
-        place: 0,
-    })
+    let counted = CountedTree {
+        file: tree,
+        counts: &counts,
+    };
+    let node = CountedNode {
+        tree: &counted,
+        node: root,
+    };
+    node.write_sets(sets);
+    Ok(count)
+}
+
+// What listing comes to, and what it leaves in the lent slice.
+fn outcome(state: State, tree_store: &[u8], sets: &mut [u64]) -> Result<u64, Refusal>
+    ensures value { result ≡ list_outcome state tree_store.now (length sets.old) }
+    ensures sets_left { SetsLeft result (held_tree state tree_store.now) sets.old sets.new }
+{
+    let counts = judge_events(state, tree_store)?;
+    let tree = &tree_store[..state.tree_len];
+    listed(tree, counts.nodes - 1, sets)
 }
 
 // Lists the minimal cut sets of the held tree to the front of the lent slice; the order is left open.
@@ -48,16 +63,6 @@ pub fn list_sets(state: State, tree_store: &[u8], sets: &mut [u64]) -> Reply
     ensures sets_left { SetsLeft result.outcome (held_tree state tree_store.now)
         sets.old sets.new }
 {
-    let standing = judge_events(state, tree_store);
-    match standing {
-        Standing::Refused(refusal) => Reply {
-            state,
-            outcome: Outcome::Refused(refusal),
-        },
-        Standing::Ready(counts) => {
-            let tree_len = state.tree_len;
-            let outcome = listed(&tree_store[..tree_len], counts.nodes - 1, sets);
-            Reply { state, outcome }
-        }
-    }
+    let outcome = outcome(state, tree_store, sets);
+    Reply { state, outcome }
 }

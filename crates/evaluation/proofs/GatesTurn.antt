@@ -3,7 +3,6 @@ use Prim.Native.Nat.{ℕ, ◌+◌, ◌<◌}
 use mathlib.Core.Path.{◌≡◌, ◌∙◌}
 use mathlib.Core.List.{List}
 use native.Mathlib.Nat.{le_refl, le_of_lt}
-use native.Mathlib.Omega.{arith}
 use Rattle.tree_file.specs.Format.{node_count}
 use Rattle.tree_file.specs.NodeTable.{read_node}
 use Rattle.evaluation.specs.Slices.{Slices}
@@ -14,25 +13,21 @@ use Rattle.evaluation.proofs.Turns.{Reached, reached_next, turns_length}
 use Rattle.evaluation.proofs.GatesDone.{gates_local, inputs_done, linked_inside, order_inside}
 use Rattle.evaluation.proofs.Evaluated.{in_units_done}
 
-module _ (U : ℕ) (positive : 0 < U) (tree : List ℕ) (s₀ : Slices) {nodes : ℕ} {s : Slices} {p : ℕ}
-    (r : Reached (gate_turn U tree) s₀ nodes s p) where
+module _ (U : ℕ) (positive : 0 < U) (tree : List ℕ) (s₀ : Slices) {s : Slices} {p : ℕ}
+    (r : Reached (gate_turn U tree) s₀ (node_count tree) s p) (l : p < node_count tree) {i : ℕ}
+    (e : i ≡ in_order tree p) where
   -- what the node at its turn asks
-  pub gate_asked : EventsStored U tree s₀ → nodes ≡ node_count tree → p < nodes → {i : ℕ} → i ≡ in_order tree p
-      → GateAsked U tree i s
-  gate_asked asked all l e =
-      let inside : p < node_count tree = omega arith in
-      rw (e, r.same)
-      (record {
-        well_formed = asked.well_formed;
-        inside = order_inside tree p inside;
-        long = same_long (turns_length (gates_local U tree) p s₀) (le_refl (node_count tree)) asked.long;
-        in_units = λ w g q j m.
-            in_units_done U positive tree s₀ asked p (le_of_lt inside) _
-            (linked_inside tree asked.well_formed p inside g q j m)
-            (inputs_done tree asked.well_formed p inside g q j m) w;
-      })
+  pub gate_asked : EventsStored U tree s₀ → GateAsked U tree i s
+  gate_asked asked = rw (e, r.same) (record {
+    well_formed = asked.well_formed;
+    inside = order_inside tree p l;
+    long = same_long (turns_length (gates_local U tree) p s₀) (le_refl (node_count tree)) asked.long;
+    in_units = λ w g q j m.
+        in_units_done U positive tree s₀ asked p (le_of_lt l) _ (linked_inside tree asked.well_formed p l g q j m)
+        (inputs_done tree asked.well_formed p l g q j m) w;
+  })
 
   -- one place more
-  pub gates_next : p < nodes → {i : ℕ} → i ≡ in_order tree p → {after : Slices}
-      → after ≡ gate_put U tree i (read_node tree i) s → Reached (gate_turn U tree) s₀ nodes after (p + 1)
-  gates_next l e made = reached_next r l (made ∙ rw e)
+  pub gates_next : {after : Slices} → after ≡ gate_put U tree i (read_node tree i) s
+      → Reached (gate_turn U tree) s₀ (node_count tree) after (p + 1)
+  gates_next made = reached_next r l (made ∙ rw e)

@@ -7,7 +7,6 @@ pub mod FoldBounds
 pub mod GatesDone
 pub mod Evaluated
 pub mod EventsTurn
-pub mod BothEnds
 pub mod GateTurn
 pub mod GateParts
 pub mod GatesTurn

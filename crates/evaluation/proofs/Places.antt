@@ -3,16 +3,15 @@ use Prim.Native.Nat.{ℕ, ◌≤◌, ◌<◌}
 use mathlib.Core.Path.{◌≡◌, refl, ap, ap₂, ◌∙◌}
 use mathlib.Core.Logic.{◌≢◌}
 use mathlib.Core.Bool.{Bool}
-use mathlib.Core.List.{List}
 use native.Mathlib.Nat.{le_trans, lt_of_lt_of_le}
 use lib.ListN.{length, get_or, set, length-set}
 use lib.Seq.{ext_get_or, get_or-set_same, get_or-set_other}
 use Rattle.theory.specs.Rounding.{Direction, down, up, End}
 use Rattle.rounding.specs.Ends.{as_code, enclosure}
-use Rattle.rounding.specs.Marks.{mark_byte, exact_in}
+use Rattle.rounding.specs.Marks.{exact_in}
 use Rattle.rounding.specs.declared.end.Enclosure.{Enclosure}
 use Rattle.rounding.proofs.Marks.{marked_as_put}
-use Rattle.evaluation.specs.Slices.{Slices, slices, Part, ends, mark_bytes, slice, content, stored_end, Long, put}
+use Rattle.evaluation.specs.Slices.{Slices, Part, ends, mark_bytes, slice, content, stored_end, Long, put}
 
 -- the slices hold an enclosure at a place
 abbrev pub At : Slices → ℕ → Enclosure → Type 0
@@ -82,10 +81,3 @@ module _ (i : ℕ) (x : Enclosure) (s : Slices) where
   -- the other places stay
   pub put_other : (m : ℕ) → m ≢ i → SameAt (put i x s) s m
   put_other m ne p = rw (put_sets p) (get_or-set_other (slice p s) i m (content p x) 0 ne)
-
--- both ends put, and the mark byte as it was reckoned
-pub put_made : (i : ℕ) (x : Enclosure) (lower upper marks : List ℕ) (m : ℕ) → m ≡ mark_byte x
-    → slices (set lower i x.lower.value) (set upper i x.upper.value) (set marks i m)
-    ≡ put i x (slices lower upper marks)
-put_made i x lower upper marks m e =
-    ap (λ (m : ℕ). slices (set lower i x.lower.value) (set upper i x.upper.value) (set marks i m)) e

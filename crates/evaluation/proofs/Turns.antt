@@ -1,6 +1,6 @@
 -- Something that is done to the slices place by place: each turn touches its own place alone.
 use Prim.Native.Nat.{ℕ, zero, suc, ◌+◌, ◌≤◌, ◌<◌}
-use mathlib.Core.Path.{◌≡◌, refl, ap, subst, ◌∙◌}
+use mathlib.Core.Path.{◌≡◌, refl, subst, ◌∙◌}
 use mathlib.Core.Logic.{◌≢◌}
 use native.Mathlib.Decide.{dec_lt}
 use native.Mathlib.Nat.{le_refl}
@@ -30,12 +30,6 @@ module _ {turn : ℕ → Slices → Slices} {s₀ : Slices} {n : ℕ} {s : Slice
   pub reached_next : p < n → {after : Slices} → after ≡ turn p s → Reached turn s₀ n after (p + 1)
   unfolding after_turns
   reached_next l e = record { within = omega arith; same = e ∙ rw (r.same, add-one p) }
-
-  -- after all turns
-  pub reached_all : n ≤ p → s ≡ after_turns turn n s₀
-  reached_all l =
-      let last : p ≡ n = omega arith in
-      r.same ∙ ap (λ (m : ℕ). after_turns turn m s₀) last
 
 module _ {turn : ℕ → Slices → Slices} {place : ℕ → ℕ} (local : Local turn place) where
   -- the lengths stay

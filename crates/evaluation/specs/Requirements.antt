@@ -10,7 +10,7 @@ use Rattle.tree_file.specs.declared.node.Gate.{Gate}
 use Rattle.tree_file.specs.declared.node.Node.TheVariants as node
 use Rattle.opinion_sheet.specs.Format.{event_count as entry_count}
 use Rattle.opinion_sheet.specs.WellFormed.{WellFormed as WellFormedSheet}
-use Rattle.opinion_sheet.specs.Cut.{Level}
+use Rattle.opinion_sheet.specs.Cut.{IsLevel}
 use Rattle.evaluation.specs.Slices.{Slices, Long, ends, slice}
 
 -- A well-formed tree file and a well-formed sheet with as many events, and a level.
@@ -18,13 +18,14 @@ pub record Pair (tree sheet : List ℕ) (k n : ℕ) : Type 0 where
   pub tree_well_formed : WellFormed tree
   pub sheet_well_formed : WellFormedSheet sheet
   pub same_events : entry_count sheet ≡ event_count tree
-  pub level : Level k n
+  pub level : IsLevel k n
 
--- What `evaluate` asks: a pair, the tree's number of nodes (N), and a place for every node in the work slices.
-pub record Evaluable (tree sheet : List ℕ) (nodes k n : ℕ) (s : Slices) : Type 0 where
-  pub pair : Pair tree sheet k n
-  pub nodes_is : nodes ≡ node_count tree
-  pub long : Long nodes s
+-- What `evaluate` asks at any level: such files, and a place for every node in the work slices.
+pub record Evaluable (tree sheet : List ℕ) (s : Slices) : Type 0 where
+  pub tree_well_formed : WellFormed tree
+  pub sheet_well_formed : WellFormedSheet sheet
+  pub same_events : entry_count sheet ≡ event_count tree
+  pub long : Long (node_count tree) s
 
 -- Link j lies inside the part of the links, and names a node with a place and ends of at most U. The place is inside
 -- the slices, so the default 0 is never read.

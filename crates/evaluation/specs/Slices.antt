@@ -1,8 +1,9 @@
 -- The three lent work slices: at place i the lower end, the upper end and the mark byte of node i.
-use Rattle.std.specs.Prelude.{ℕ, zero, suc, ◌≤◌, List, length, get_or, set}
+use Rattle.std.specs.Prelude.{ℕ, zero, suc, ◌≤◌, ◌≡◌, List, length, get_or, set}
 use Rattle.theory.specs.Rounding.{Direction, down, up, End}
 use Rattle.rounding.specs.Marks.{mark_byte, exact_in}
 use Rattle.rounding.specs.declared.end.Enclosure.{Enclosure}
+use Rattle.evaluation.specs.declared.slices.WorkSlices.{WorkSlices}
 
 pub record Slices : Type 0 where
   pub lower : List ℕ
@@ -12,6 +13,16 @@ pub record Slices : Type 0 where
 -- The three of a call as one.
 abbrev pub slices : List ℕ → List ℕ → List ℕ → Slices
 slices lower upper marks = record { lower = lower; upper = upper; marks = marks }
+
+-- What the struct's slices hold.
+abbrev pub contents : WorkSlices → Slices
+contents s = slices s.lower.now s.upper.now s.marks.now
+
+-- The two lend the same slices, whatever these hold: what is put through one is then in its caller's slices.
+pub record SameSlices (s t : WorkSlices) : Type 0 where
+  pub same_lower : s.lower.ghost_name ≡ t.lower.ghost_name
+  pub same_upper : s.upper.ghost_name ≡ t.upper.ghost_name
+  pub same_marks : s.marks.ghost_name ≡ t.marks.ghost_name
 
 -- Which of the three: the ends in a direction (lower ends are rounded down, upper ends up), or the marks.
 pub data Part : Type 0 where

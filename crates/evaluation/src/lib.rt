@@ -7,4 +7,4 @@ mod events;
 mod gate;
 mod gates;
 mod seen;
-pub mod stored;
+pub mod slices;

@@ -10,17 +10,7 @@ use rounding::step::complement;
 use tree_file::node::GateKind;
 
 // Of two values, the one for an AND and the one for an OR.
-fn value_by_kind(kind: GateKind, all: u32, any: u32) -> u32
-    ensures { result ≡ by_kind (kind_as kind) all any }
-{
-    match kind {
-        GateKind::All => all,
-        GateKind::Any => any,
-    }
-}
-
-// The same of two marks.
-fn mark_by_kind(kind: GateKind, all: bool, any: bool) -> bool
+fn by_kind<T: Copy>(kind: GateKind, all: T, any: T) -> T
     ensures { result ≡ by_kind (kind_as kind) all any }
 {
     match kind {
@@ -40,12 +30,12 @@ pub fn seen_ends(kind: GateKind, x: Enclosure) -> Enclosure
     let high = complement(x.lower);
     Enclosure {
         lower: End {
-            value: value_by_kind(kind, x.lower.value, low.value),
-            exact: mark_by_kind(kind, x.lower.exact, low.exact),
+            value: by_kind(kind, x.lower.value, low.value),
+            exact: by_kind(kind, x.lower.exact, low.exact),
         },
         upper: End {
-            value: value_by_kind(kind, x.upper.value, high.value),
-            exact: mark_by_kind(kind, x.upper.exact, high.exact),
+            value: by_kind(kind, x.upper.value, high.value),
+            exact: by_kind(kind, x.upper.exact, high.exact),
         },
     }
 }

@@ -23,52 +23,38 @@ joined_next part n = refl
 -- only the first n parts count
 pub joined_alike : (part other : ℕ → List ℕ) (n : ℕ) → ((e : ℕ) → e < n → part e ≡ other e)
     → joined part n ≡ joined other n
-joined_alike part other zero h = joined_none part ∙ sym (joined_none other)
-joined_alike part other (suc n) h =
-    rw (
-      joined_next part n,
-      joined_next other n,
-      joined_alike part other n (λ e l. h e (omega arith)),
-      h n (omega arith),
-    )
+unfolding joined
+joined_alike part other zero h = refl
+joined_alike part other (suc n) h = rw (joined_alike part other n (λ e l. h e (omega arith)), h n (omega arith))
 
 -- the parts of a file, joined, are the file's
 pub joined_parts : (file : List ℕ) (at m n : ℕ) → joined (λ e. take m (drop (at + m * e) file)) n
     ≡ take (m * n) (drop at file)
-joined_parts file at m zero = joined_none _ ∙ ap (λ k. take k (drop at file)) (sym (mul-zero m))
-joined_parts file at m (suc n) =
-    joined_next _ n
-    ∙ ap (λ (xs : List ℕ). xs ++ take m (drop (at + m * n) file)) (joined_parts file at m n)
-    ∙ ap (λ (xs : List ℕ). take (m * n) (drop at file) ++ take m xs) (sym (drop-drop (m * n) at file))
-    ∙ sym (take-add (m * n) m (drop at file))
-    ∙ ap (λ k. take k (drop at file)) (sym (mul-suc m n))
+unfolding joined
+joined_parts file at m zero = simp mul-zero
+joined_parts file at m (suc n) = simp (mul-suc, take-add, drop-drop, joined_parts file at m n)
 
 module _ (m : ℕ) (part : ℕ → List ℕ) where
   pub joined_long : (n : ℕ) → ((e : ℕ) → e < n → length (part e) ≡ m) → length (joined part n) ≡ m * n
-  joined_long zero h = ap length (joined_none part) ∙ sym (mul-zero m)
+  unfolding joined
+  joined_long zero h = sym (mul-zero m)
   joined_long (suc n) h =
-      ap length (joined_next part n)
-      ∙ length-append (joined part n) (part n)
-      ∙ omega (arith, joined_long n (λ e l. h e (omega arith)), h n (omega arith), mul-suc m n)
+      simp (length-append, mul-suc, joined_long n (λ e l. h e (omega arith)), h n (omega arith))
 
   -- a byte of a part
   pub joined_byte : (n : ℕ) → ((e : ℕ) → e < n → length (part e) ≡ m) → (e j : ℕ) → e < n → j < m
       → byte (joined part n) (m * e + j) ≡ byte (part e) j
+  unfolding joined
   joined_byte zero h e j le lj = absurd (not-suc-le-zero le)
   joined_byte (suc n) h e j le lj =
-      ap (λ (xs : List ℕ). byte xs (m * e + j)) (joined_next part n)
-      ∙ go (λ k. joined_byte n (λ e l. h e (omega arith)) e j k lj) (ℕ_discrete e n)
+      go (λ k. joined_byte n (λ e l. h e (omega arith)) e j k lj) (ℕ_discrete e n)
     where
       long : length (joined part n) ≡ m * n
       long = joined_long n (λ e l. h e (omega arith))
 
       go : (e < n → byte (joined part n) (m * e + j) ≡ byte (part e) j) → Dec (e ≡ n)
           → byte (joined part n ++ part n) (m * e + j) ≡ byte (part e) j
-      go earlier (yes same) =
-          let place : m * e + j ≡ length (joined part n) + j = ap (λ x. m * x + j) same ∙ ap (λ x. x + j) (sym long) in
-          ap (λ p. byte (joined part n ++ part n) p) place
-          ∙ get_or-append-add (joined part n) (part n) j 0
-          ∙ ap (λ x. byte (part x) j) (sym same)
+      go earlier (yes same) = simp (same, ← long, get_or-append-add)
       go earlier (no other) =
           let below : e < n = omega arith in
           let inside : m * e + j < m * n = omega (arith, mul-le-mul_left m below, mul-suc m e) in
@@ -82,13 +68,8 @@ module _ (done part before now after : List ℕ) (at : ℕ) (long : length done 
   grown =
       let front : take at now ≡ done = ap (take at) written ∙ take_at done (drop at before) at long in
       let rest : drop (at + length part) now ≡ drop (at + length part) before =
-      ap (drop (at + length part)) written
-      ∙ ap (λ k. drop (k + length part) (done ++ drop at before)) (sym long)
-      ∙ drop-append-add done (drop at before) (length part)
-      ∙ drop-drop (length part) at before in
-      put
-      ∙ (λ i. front i ++ (part ++ rest i))
-      ∙ sym (append_assoc done part (drop (at + length part) before))
+      simp (written, ← long, drop-append-add, drop-drop) in
+      simp (put, front, rest, append_assoc)
 
 -- A file with parts in place of its own.
 module _ (at m : ℕ) (part : ℕ → List ℕ) (n : ℕ) (file : List ℕ) (inside : at + m * n ≤ length file) where
@@ -98,20 +79,14 @@ module _ (at m : ℕ) (part : ℕ → List ℕ) (n : ℕ) (file : List ℕ) (ins
   -- what stands behind it stays behind it
   pub with_rest : (rest : List ℕ) → with_parts at m part n (file ++ rest) ≡ with_parts at m part n file ++ rest
   with_rest rest =
-      let back = drop (at + m * n) file in
-      (λ i. take-append-le at file rest (omega arith) i
-      ++ (joined part n ++ drop-append-le (at + m * n) file rest inside i))
-      ∙ ap (λ (xs : List ℕ). take at file ++ xs) (sym (append_assoc (joined part n) back rest))
-      ∙ sym (append_assoc (take at file) (joined part n ++ back) rest)
+      simp (take-append-le at file rest (omega arith), drop-append-le (at + m * n) file rest inside, append_assoc)
 
   -- with its own parts it is as it was
   pub with_own : ((e : ℕ) → e < n → part e ≡ take m (drop (at + m * e) file)) → with_parts at m part n file ≡ file
   with_own own =
       let all : joined part n ≡ take (m * n) (drop at file) =
       joined_alike part _ n own ∙ joined_parts file at m n in
-      (λ i. take at file ++ (all i ++ sym (drop-drop (m * n) at file) i))
-      ∙ ap (λ (xs : List ℕ). take at file ++ xs) (take-append-drop (m * n) (drop at file))
-      ∙ take-append-drop at file
+      simp (all, ← drop-drop, take-append-drop)
 
   -- a byte before them is as it was
   pub with_before : (p : ℕ) → p < at → byte (with_parts at m part n file) p ≡ byte file p
@@ -124,15 +99,7 @@ module _ (at m : ℕ) (part : ℕ → List ℕ) (n : ℕ) (file : List ℕ) (ins
 
     -- the file keeps its length
     pub with_length : length (with_parts at m part n file) ≡ length file
-    with_length =
-        length-append (take at file) (joined part n ++ drop (at + m * n) file)
-        ∙ omega (
-          arith,
-          front_long,
-          all_long,
-          length-append (joined part n) (drop (at + m * n) file),
-          length-drop (at + m * n) file,
-        )
+    with_length = simp (length-append, front_long, all_long, length-drop) (omega arith)
 
     -- behind the front
     past_front : (p : ℕ) → byte (with_parts at m part n file) (at + p)
@@ -145,19 +112,19 @@ module _ (at m : ℕ) (part : ℕ → List ℕ) (n : ℕ) (file : List ℕ) (ins
     pub with_part : (e j : ℕ) → e < n → j < m → byte (with_parts at m part n file) (at + m * e + j) ≡ byte (part e) j
     with_part e j le lj =
         let within : m * e + j < m * n = omega (arith, mul-le-mul_left m le, mul-suc m e) in
-        ap (byte (with_parts at m part n file)) (add_assoc at (m * e) j)
-        ∙ past_front (m * e + j)
-        ∙ get_or-append (joined part n) (drop (at + m * n) file) 0 (m * e + j) (rw all_long within)
-        ∙ joined_byte m part n each e j le lj
+        simp (
+          add_assoc,
+          past_front,
+          get_or-append (joined part n) (drop (at + m * n) file) 0 (m * e + j) (rw all_long within),
+          joined_byte m part n each e j le lj,
+        )
 
     -- a byte behind them is as it was
     pub with_after : (j : ℕ) → byte (with_parts at m part n file) (at + m * n + j) ≡ byte file (at + m * n + j)
     with_after j =
         ap (byte (with_parts at m part n file)) (add_assoc at (m * n) j)
         ∙ past_front (m * n + j)
-        ∙ ap (λ k. byte (joined part n ++ drop (at + m * n) file) (k + j)) (sym all_long)
-        ∙ get_or-append-add (joined part n) (drop (at + m * n) file) j 0
-        ∙ get_or-drop (at + m * n) file j 0
+        ∙ simp (← all_long, get_or-append-add, get_or-drop)
 
     -- other parts in their place leave nothing of them
     pub with_again : (other : ℕ → List ℕ) → with_parts at m other n (with_parts at m part n file)
@@ -165,9 +132,7 @@ module _ (at m : ℕ) (part : ℕ → List ℕ) (n : ℕ) (file : List ℕ) (ins
     with_again other =
         let back = drop (at + m * n) file in
         let front : take at (with_parts at m part n file) ≡ take at file = take_at (take at file) _ at front_long in
-        let long : length (take at file ++ joined part n) ≡ at + m * n =
-        length-append (take at file) (joined part n) ∙ omega (arith, front_long, all_long) in
+        let long : length (take at file ++ joined part n) ≡ at + m * n = simp (length-append, front_long, all_long) in
         let behind : drop (at + m * n) (with_parts at m part n file) ≡ back =
-        ap (drop (at + m * n)) (sym (append_assoc (take at file) (joined part n) back))
-        ∙ drop_at (take at file ++ joined part n) back _ long in
-        λ i. front i ++ (joined other n ++ behind i)
+        simp (← append_assoc) (drop_at (take at file ++ joined part n) back _ long) in
+        simp (front, behind)

@@ -1,20 +1,14 @@
 // The fields of a file: unsigned numbers, low byte first.
+// No generic reader: each of three is one line over the library, 24 bits have no type, and the results' types differ.
 ghost use Rattle.std.specs.Prelude.{◌≡◌, ◌+◌, ◌<◌, length};
 ghost use Rattle.fields.specs.Fields.{byte, field16, field24, field32, Is16};
-
-// A byte as a wider number.
-fn wide(x: u8) -> usize
-    ensures { (result ≡ x) × (result < 256) }
-{
-    x as usize
-}
 
 // The byte at an offset.
 pub fn byte_at(s: &[u8], at: usize) -> usize
     requires { at < length s.now }
     ensures { (result ≡ byte s.now at) × (result < 256) }
 {
-    wide(s[at])
+    usize::from(s[at])
 }
 
 // The 16-bit field at an offset.
@@ -23,9 +17,7 @@ pub fn field16_at(s: &[u8], at: usize) -> usize
     requires { at + 1 < length s.now }
     ensures { Is16 result (field16 s.now at) }
 {
-    let low = byte_at(s, at);
-    let high = byte_at(s, at + 1);
-    low + 256 * high
+    usize::from(u16::from_le_bytes([s[at], s[at + 1]]))
 }
 
 // The 24-bit field at an offset.
@@ -34,10 +26,7 @@ pub fn field24_at(s: &[u8], at: usize) -> u64
     requires { at + 2 < length s.now }
     ensures { result ≡ field24 s.now at }
 {
-    let low = byte_at(s, at);
-    let middle = byte_at(s, at + 1);
-    let high = byte_at(s, at + 2);
-    (low + 256 * middle + 65536 * high) as u64
+    u64::from(u32::from_le_bytes([s[at], s[at + 1], s[at + 2], 0]))
 }
 
 // The 32-bit field at an offset.
@@ -46,7 +35,5 @@ pub fn field32_at(s: &[u8], at: usize) -> u32
     requires { at + 3 < length s.now }
     ensures { result ≡ field32 s.now at }
 {
-    let low = field16_at(s, at);
-    let high = field16_at(s, at + 2);
-    low as u32 + 65536 * (high as u32)
+    u32::from_le_bytes([s[at], s[at + 1], s[at + 2], s[at + 3]])
 }

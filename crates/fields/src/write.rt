@@ -6,21 +6,13 @@ ghost use Rattle.fields.specs.Fields.{bytes24, bytes32};
 pub fn three_bytes(n: u64) -> [u8; 3]
     ensures { result ≡ bytes24 n }
 {
-    [
-        (n % 256) as u8,
-        (n / 256 % 256) as u8,
-        (n / 256 / 256 % 256) as u8,
-    ]
+    let [low, middle, high, ..] = n.to_le_bytes();
+    [low, middle, high]
 }
 
 // The four bytes of a 32-bit number.
 pub fn four_bytes(n: u32) -> [u8; 4]
     ensures { result ≡ bytes32 n }
 {
-    [
-        (n % 256) as u8,
-        (n / 256 % 256) as u8,
-        (n / 256 / 256 % 256) as u8,
-        (n / 256 / 256 / 256 % 256) as u8,
-    ]
+    n.to_le_bytes()
 }

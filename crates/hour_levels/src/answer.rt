@@ -1,91 +1,75 @@
-// What is printed for a pair, a book and an hour, from the hand-ins down to the question. Each function answers whether
-// all of its text was written.
-use crate::given::Asked;
-use crate::levels::print_hour;
-use monitor::hand_in::{Verdict, hand_in_sheet, hand_in_tree};
-use monitor::question::Outcome;
-use monitor::state::State;
-use program_text::front::front;
-use program_text::lines::print_refusal;
-use program_text::read::{MOST_SHEET, MOST_TREE};
+// What is printed for a pair, a book and an hour.
+use arrayvec::ArrayVec;
+use evaluation::slices::WorkSlices;
+use fields::fields::{field16_at, field32_at};
+use printer::print::{MOST_TEXT, print_levels};
+use program_text::held::{Held, MOST_SHEET, MOST_TREE};
+use program_text::no_answer::NoAnswer;
+use program_text::read::{read_end, read_file, read_head, read_pair};
+use refusals::refusal::Refusal;
+use std::io;
+use std::io::Write;
+use tree_file::format::MAX_NODES;
 use work_windows::question::question_at_hour;
 
-// The most nodes of a tree.
-const MOST_NODES: usize = 1024;
+// The level printer's input begins with n and the lengths of the tree and of the sheet, as the hour printer's does.
+const LEVELS_HEAD: usize = 6;
 
-// Questions level n of n at the hour, and prints the levels of the sheet that it leaves in the buffer, or the refusal.
-fn print_asked(
-    rt: &impl Print,
-    state: State,
-    asked: Asked,
-    tree_store: &[u8],
-    sheet_store: &[u8],
-    book: &[u8],
-    buffer: &mut [u8],
-) -> bool {
-    let mut lower = [0u32; MOST_NODES];
-    let mut upper = [0u32; MOST_NODES];
-    let mut marks = [0u8; MOST_NODES];
-    let reply = question_at_hour(
-        state,
-        tree_store,
-        sheet_store,
-        book,
-        asked.n,
-        asked.n,
-        asked.hour,
-        buffer,
-        &mut lower,
-        &mut upper,
-        &mut marks,
-    );
-    let outcome = reply.outcome;
-    if let Outcome::Refused(refusal) = outcome {
-        return print_refusal(rt, refusal);
-    }
-    let tree = front(asked.tree, tree_store);
-    let sheet = front(asked.sheet, buffer);
-    print_hour(rt, asked.n, &tree_store[..tree], &buffer[..sheet])
-}
+const MOST_INPUT: usize = LEVELS_HEAD + MOST_TREE + MOST_SHEET;
 
-// Hands in the sheet, and asks.
-fn print_with_sheet(
-    rt: &impl Print,
-    state: State,
-    asked: Asked,
-    tree_store: &[u8],
-    sheet: &[u8],
-    book: &[u8],
-) -> bool {
-    let mut store = [0u8; MOST_SHEET];
-    let answer = hand_in_sheet(state, sheet, &mut store);
-    let verdict = answer.verdict;
-    if let Verdict::Refused(refusal) = verdict {
-        return print_refusal(rt, refusal);
-    }
-    let mut buffer = [0u8; MOST_SHEET];
-    print_asked(
+// Reads 16-bit n, tree length, sheet length and book length and a 32-bit hour, low byte first, then the tree, the sheet
+// and the book, and prints the levels of the hour.
+pub fn print_answer(rt: &(impl Input + Print)) -> Result<(), NoAnswer> {
+    let head: [u8; 12] = read_head(rt)?;
+    let pair = read_pair(rt, field16_at(&head, 2), field16_at(&head, 4))?;
+    let mut book = [0; 65535];
+    let book = read_file(rt, field16_at(&head, 6), &mut book)?;
+    read_end(rt)?;
+    let held = pair?;
+    let n = field16_at(&head, 0) as u32;
+    let sheet = sheet_at_hour(&held, book, n, field32_at(&head, 8))?;
+    let tree = &held.tree[..held.state.tree_len];
+    print_text(
         rt,
-        answer.state,
-        asked,
-        tree_store,
-        &store,
-        book,
-        &mut buffer,
-    )
+        &head[..LEVELS_HEAD],
+        tree,
+        &sheet[..held.state.sheet_len],
+    )?;
+    Ok(())
 }
 
-// Hands in the tree, then the sheet, and asks.
-pub fn print_pair(rt: &impl Print, asked: Asked, tree: &[u8], sheet: &[u8], book: &[u8]) -> bool {
-    let mut store = [0u8; MOST_TREE];
-    let empty = State {
-        tree_len: 0,
-        sheet_len: 0,
+// The sheet that a question of level n of n leaves in its buffer.
+fn sheet_at_hour(held: &Held, book: &[u8], n: u32, hour: u32) -> Result<[u8; MOST_SHEET], Refusal> {
+    let mut sheet = [0; MOST_SHEET];
+    let mut slices = WorkSlices {
+        lower: &mut [0; MAX_NODES],
+        upper: &mut [0; MAX_NODES],
+        marks: &mut [0; MAX_NODES],
     };
-    let answer = hand_in_tree(empty, tree, &mut store);
-    let verdict = answer.verdict;
-    if let Verdict::Refused(refusal) = verdict {
-        return print_refusal(rt, refusal);
+    let reply = question_at_hour(
+        held.state,
+        &held.tree,
+        &held.sheet,
+        book,
+        n,
+        n,
+        hour,
+        &mut sheet,
+        &mut slices,
+    );
+    reply.outcome?;
+    Ok(sheet)
+}
+
+// Prints the level printer's text for a tree and a sheet.
+fn print_text(rt: &impl Print, head: &[u8], tree: &[u8], sheet: &[u8]) -> io::Result<()> {
+    let mut input: ArrayVec<u8, MOST_INPUT> = ArrayVec::new();
+    input.write_all(head)?;
+    input.write_all(tree)?;
+    input.write_all(sheet)?;
+    let mut text = [0; MOST_TEXT];
+    if let Ok(length) = print_levels(&input, &mut text) {
+        rt.write_all(&text[..length])?;
     }
-    print_with_sheet(rt, answer.state, asked, &store, sheet, book)
+    Ok(())
 }

@@ -3,13 +3,11 @@
 #![tactic(auto)]
 
 mod answer;
-mod given;
-mod levels;
-mod part;
+
+use program_text::no_answer::tell;
 
 fn main(rt: HostRuntime) {
-    let written = given::print_given(&rt);
-    if !written {
-        let _ = eprintln!(rt; "hour_levels: the text could not be written");
+    if let Err(no_answer) = answer::print_answer(&rt) {
+        tell(&rt, no_answer, "hour_levels: the text could not be written");
     }
 }

@@ -2,8 +2,7 @@
 // says so on standard error.
 #![tactic(auto)]
 
-use printer::print::{MOST_TEXT, Printed, print_levels};
-use program_text::lines::put_text;
+use printer::print::{MOST_TEXT, print_levels};
 use program_text::read::read_full;
 
 fn main(rt: HostRuntime) {
@@ -11,11 +10,9 @@ fn main(rt: HostRuntime) {
     let mut input = [0u8; 24616];
     let count = read_full(&rt, &mut input);
     let mut text = [0u8; MOST_TEXT];
-    let printed = print_levels(&input[..count], &mut text);
-    if let Printed::Complete(length) = printed {
-        let written = put_text(&rt, &text[..length]);
-        if !written {
-            let _ = eprintln!(rt; "levels: the text could not be written");
-        }
+    if let Ok(length) = print_levels(&input[..count], &mut text)
+        && rt.write_all(&text[..length]).is_err()
+    {
+        let _ = eprintln!(rt; "levels: the text could not be written");
     }
 }

@@ -2,34 +2,32 @@
 -- holds of the two, of what is reported and of what questions leave in work slices.
 use Prim.Native.Nat.{ℕ, ◌-◌, ◌≤◌, ◌<◌}
 use mathlib.Core.Path.{◌≡◌, refl, sym, ap, ◌∙◌}
-use mathlib.Core.Bool.{true}
 use mathlib.Core.List.{List, ◌++◌}
 use native.Mathlib.Omega.{arith}
 use lib.ListN.{length, length-append}
 use lib.Seq.{length-take-le}
 use borrow.Author.Tests.{le-leb}
 use Rattle.theory.specs.Rounding.{Direction, down, up, End}
-use Rattle.refusals.specs.FirstFault.{unless, first_of}
+use Rattle.refusals.specs.FirstFault.{unless, first_of, judged_by}
 use Rattle.refusals.specs.declared.rule.Rule.TheVariants.{OtherTree}
-use Rattle.refusals.specs.declared.refusal.FirstFault.TheVariants.{Absent}
-use Rattle.refusals.proofs.FirstFault.{AllAbsent, absent_first_of, first_of_absent}
+use Rattle.std.specs.Prelude.{Ok}
+use Rattle.refusals.proofs.FirstFault.{AllAbsent, accepted_absent, absent_first_of, first_of_absent}
 use Rattle.tree_file.specs.Format.{node_count}
 use Rattle.tree_file.specs.Judged.{fault_of as tree_fault, counts_of as tree_counts}
 use Rattle.tree_file.specs.declared.judgement.Counts.{Counts}
 use Rattle.opinion_sheet.specs.Format.{unit}
 use Rattle.opinion_sheet.specs.Judged.{fault_of as sheet_fault, counts_of as sheet_counts}
-use Rattle.opinion_sheet.specs.Cut.{Level}
+use Rattle.opinion_sheet.specs.Cut.{IsLevel}
 use Rattle.opinion_sheet.proofs.HeaderKept.{same_counts}
 use Rattle.evaluation.specs.Slices.{Slices, Long, stored_end}
 use Rattle.evaluation.specs.Report.{node_end}
 use Rattle.evaluation.specs.Requirements.{Pair}
-use Rattle.monitor.specs.Standing.{held_tree, held_sheet, tree_changed, sheet_changed, other_tree, fitting, in_range}
-use Rattle.monitor.specs.Standing.{pair_rules, pair_standing, standing_by, standing_of}
+use Rattle.monitor.specs.Standing.{changed, held_tree, held_sheet, tree_changed, sheet_changed, other_tree, fitting}
+use Rattle.monitor.specs.Standing.{pair_rules, pair_standing, standing_of}
 use Rattle.monitor.specs.Question.{slices_left}
 use Rattle.monitor.specs.declared.state.State.{State}
-use Rattle.monitor.specs.declared.held.Standing.TheVariants.{Ready}
-use Rattle.monitor.proofs.Standing.{changed_absent, ready_absent, level_in_range}
-use Rattle.monitor.proofs.Ready.{ReadyPair, ready_pair}
+use Rattle.monitor.proofs.Standing.{level_in_range}
+use Rattle.monitor.proofs.Ready.{ReadyPair, level_ranged, ready_pair}
 use Rattle.monitor.proofs.Stored.{left_stored}
 use Rattle.mirror.specs.Tree.{mirrored_tree, MirroredTree}
 use Rattle.mirror.specs.Sheet.{mirrored_sheet}
@@ -39,10 +37,6 @@ use Rattle.mirror.proofs.TreeAccepted.{tree_counts_kept, tree_unfaulted}
 use Rattle.mirror.proofs.SheetWritten.{header_bytes, sheet_long, sheet_front}
 use Rattle.mirror.proofs.SheetAccepted.{sheet_unfaulted}
 use Rattle.mirror.proofs.PairTurned.{node_turned, end_restored}
-
--- A level is in range.
-level_ranged : (k n : ℕ) → Level k n → in_range k n ≡ true
-level_ranged k n l = rw (le-leb 1 n l.n_positive, le-leb n 1000 l.n_bounded, le-leb k n l.k_n)
 
 -- Ends that are the same ones are turned over alike.
 same_turned : (U : ℕ) {held mirror other another : Direction → End} → ((w : Direction) → other w ≡ held w)
@@ -56,7 +50,7 @@ same_turned U a b t = record {
 
 -- A pair that is ready.
 module _ (state : State) (tree_store sheet_store : List ℕ) (counts : Counts)
-    (ready : pair_standing state tree_store sheet_store ≡ Ready counts) where
+    (ready : pair_standing state tree_store sheet_store ≡ Ok counts) where
   abbrev tree : List ℕ
   tree = held_tree state tree_store
 
@@ -64,14 +58,14 @@ module _ (state : State) (tree_store sheet_store : List ℕ) (counts : Counts)
   sheet = held_sheet state sheet_store
 
   -- at every level
-  ready_level : (k n : ℕ) → Level k n → standing_of state tree_store sheet_store k n ≡ Ready counts
+  ready_level : (k n : ℕ) → IsLevel k n → standing_of state tree_store sheet_store k n ≡ Ok counts
   ready_level k n l = level_in_range state tree_store sheet_store k n (level_ranged k n l) ∙ ready
 
-  pub pair_at : (k n : ℕ) → Level k n → Pair tree sheet k n
+  pub pair_at : (k n : ℕ) → IsLevel k n → Pair tree sheet k n
   pair_at k n l = (ready_pair state tree_store sheet_store k n counts (ready_level k n l)).pair
 
   -- there is a level
-  some_level : Level 0 1
+  some_level : IsLevel 0 1
   some_level = record { n_positive = omega arith; n_bounded = omega arith; k_n = omega arith }
 
   pub held : ReadyPair state tree_store sheet_store 0 1 counts
@@ -85,7 +79,7 @@ module _ (state : State) (tree_store sheet_store : List ℕ) (counts : Counts)
 
   unbroken : AllAbsent (pair_rules state tree_store sheet_store)
   unfolding pair_standing
-  unbroken = first_of_absent (pair_rules state tree_store sheet_store) (ready_absent _ _ counts ready).0
+  unbroken = first_of_absent (pair_rules state tree_store sheet_store) (accepted_absent _ _ counts ready).0
 
   -- Two buffers that begin with the mirrored files.
   module _ (tree_buffer sheet_buffer rest more : List ℕ) (tree_is : tree_buffer ≡ mirrored_tree tree ++ rest)
@@ -101,7 +95,8 @@ module _ (state : State) (tree_store sheet_store : List ℕ) (counts : Counts)
     front_sheet = rw sheet_is (sheet_front sheet held.pair.sheet_well_formed.header _ sheet_length more)
 
     -- neither has changed, for monitor, and they fit
-    tree_kept : tree_changed state tree_buffer ≡ Absent
+    tree_kept : tree_changed state tree_buffer ≡ Ok tt
+    unfolding changed
     tree_kept =
         let inside : state.tree_len ≤ length tree_buffer =
         rw tree_is
@@ -111,10 +106,10 @@ module _ (state : State) (tree_store sheet_store : List ℕ) (counts : Counts)
           tree_long tree held.pair.tree_well_formed.header,
           tree_length,
         )) in
-        changed_absent 0 tree_fault state.tree_len tree_buffer inside
-        (ap tree_fault front_tree ∙ tree_unfaulted tree (mirrored_tree tree) means held.pair.tree_well_formed)
+        rw (le-leb _ _ inside, ap tree_fault front_tree ∙ tree_unfaulted tree (mirrored_tree tree) means held.pair.tree_well_formed)
 
-    sheet_kept : sheet_changed state sheet_buffer ≡ Absent
+    sheet_kept : sheet_changed state sheet_buffer ≡ Ok tt
+    unfolding changed
     sheet_kept =
         let inside : state.sheet_len ≤ length sheet_buffer =
         rw sheet_is
@@ -124,8 +119,7 @@ module _ (state : State) (tree_store sheet_store : List ℕ) (counts : Counts)
           sheet_long sheet held.pair.sheet_well_formed.header,
           sheet_length,
         )) in
-        changed_absent 1 sheet_fault state.sheet_len sheet_buffer inside
-        (ap sheet_fault front_sheet ∙ sheet_unfaulted sheet held.pair.sheet_well_formed)
+        rw (le-leb _ _ inside, ap sheet_fault front_sheet ∙ sheet_unfaulted sheet held.pair.sheet_well_formed)
 
     counts_kept : tree_counts (held_tree state tree_buffer) ≡ tree_counts tree
     counts_kept =
@@ -138,7 +132,7 @@ module _ (state : State) (tree_store sheet_store : List ℕ) (counts : Counts)
         ∙ same_counts sheet (mirrored_sheet sheet) (header_bytes sheet held.pair.sheet_well_formed.header) in
         λ i. unless (fitting (counts_kept i) (sheet_counts_kept i)) OtherTree 0
 
-    buffers_unbroken : first_of (pair_rules state tree_buffer sheet_buffer) ≡ Absent
+    buffers_unbroken : first_of (pair_rules state tree_buffer sheet_buffer) ≡ Ok tt
     buffers_unbroken =
         absent_first_of (pair_rules state tree_buffer sheet_buffer) (
           unbroken.0,
@@ -146,10 +140,10 @@ module _ (state : State) (tree_store sheet_store : List ℕ) (counts : Counts)
         )
 
     -- the mirrored pair is ready, with the counts of the held one
-    buffers_ready : pair_standing state tree_buffer sheet_buffer ≡ Ready counts
+    buffers_ready : pair_standing state tree_buffer sheet_buffer ≡ Ok counts
     unfolding pair_standing
     buffers_ready =
-        (λ i. standing_by (buffers_unbroken i) (counts_kept i)) ∙ ap Ready (sym held.counts_is)
+        (λ i. judged_by (buffers_unbroken i) (counts_kept i)) ∙ ap Ok (sym held.counts_is)
 
     abbrev U : ℕ
     U = unit sheet
@@ -159,7 +153,7 @@ module _ (state : State) (tree_store sheet_store : List ℕ) (counts : Counts)
     nodes_are = ap (λ (c : Counts). c.nodes) counts_kept
 
     -- the law of what is reported
-    ends_turned : (k n : ℕ) → Level k n → (i : ℕ) → i < node_count tree
+    ends_turned : (k n : ℕ) → IsLevel k n → (i : ℕ) → i < node_count tree
         → TurnedOver U (λ w. node_end U w tree sheet k n i)
         (λ w. node_end U w (held_tree state tree_buffer) (held_sheet state sheet_buffer) k n i)
     ends_turned k n l i h =
@@ -167,12 +161,12 @@ module _ (state : State) (tree_store sheet_store : List ℕ) (counts : Counts)
         (node_turned tree sheet k n (pair_at k n l) i h)
 
     -- and of what questions leave
-    stored_turned : (k n : ℕ) → Level k n → (s t : Slices) → Long (node_count tree) s → Long (node_count tree) t
+    stored_turned : (k n : ℕ) → IsLevel k n → (s t : Slices) → Long (node_count tree) s → Long (node_count tree) t
         → (i : ℕ) → i < node_count tree
         → TurnedOver U (λ w. stored_end w (slices_left state tree_store sheet_store k n s) i)
         (λ w. stored_end w (slices_left state tree_buffer sheet_buffer k n t) i)
     stored_turned k n l s t s_long t_long i h =
-        let again : standing_of state tree_buffer sheet_buffer k n ≡ Ready counts =
+        let again : standing_of state tree_buffer sheet_buffer k n ≡ Ok counts =
         level_in_range state tree_buffer sheet_buffer k n (level_ranged k n l) ∙ buffers_ready in
         same_turned U (λ w. left_stored state tree_store sheet_store k n counts (ready_level k n l) s s_long w i h)
         (λ w. left_stored state tree_buffer sheet_buffer k n counts again t (rw nodes_are t_long) w i (rw nodes_are h))

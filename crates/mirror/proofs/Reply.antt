@@ -1,4 +1,4 @@
--- What mirroring answers and leaves, by what its judging and the buffers' lengths show: one law for each return.
+-- What mirroring comes to and leaves, by what its judging and the buffers' lengths show: one law for each return.
 use Prim.Native.Nat.{ℕ, ◌≤◌}
 use mathlib.Core.Path.{◌≡◌, refl, sym, ap, ◌∙◌}
 use mathlib.Core.Bool.{Bool, true, false, ◌&&◌, and-eq-true_iff}
@@ -6,27 +6,23 @@ use mathlib.Core.List.{List, [], ◌∷◌, ◌++◌}
 use lib.ListN.{length, drop}
 use lib.Dec.{leb}
 use borrow.Author.Tests.{leb-true}
-use Rattle.refusals.specs.FirstFault.{unless, ◌or_else◌, first_of}
+use Rattle.refusals.specs.FirstFault.{FirstFault, unless, ◌or_else◌, first_of}
+use Rattle.refusals.specs.Order.{refusal}
 use Rattle.refusals.specs.declared.rule.Rule.TheVariants.{ShortMirror}
 use Rattle.refusals.specs.declared.refusal.Refusal.{Refusal}
-use Rattle.refusals.specs.declared.refusal.FirstFault.{FirstFault}
-use Rattle.refusals.specs.declared.refusal.FirstFault.TheVariants.{Found, Absent}
-use Rattle.refusals.proofs.FirstFault.{first_of_append}
+use Rattle.std.specs.Prelude.{Ok, Err}
+use Rattle.refusals.proofs.FirstFault.{accepted_absent, first_of_append, refused_found}
 use Rattle.tree_file.specs.declared.judgement.Counts.{Counts}
 use Rattle.opinion_sheet.specs.Format.{unit}
 use Rattle.monitor.specs.Standing.{held_tree, held_sheet, pair_rules, pair_standing}
 use Rattle.monitor.specs.declared.state.State.{State}
-use Rattle.monitor.specs.declared.held.Standing.{Standing}
-use Rattle.monitor.specs.declared.held.Standing.TheVariants as standing
-use Rattle.monitor.proofs.Standing.{ready_absent, standing_found}
+use Rattle.std.specs.Prelude.{Result}
 use Rattle.monitor.proofs.Ready.{ReadyPair}
 use Rattle.mirror.specs.Tree.{mirrored_tree}
 use Rattle.mirror.specs.Sheet.{mirrored_sheet}
-use Rattle.mirror.specs.Mirror.{short_mirror, mirror_rules, reply_of, tree_left, sheet_left}
+use Rattle.mirror.specs.Mirror.{short_mirror, mirror_rules, tree_left, sheet_left}
 use Rattle.mirror.specs.Law.{LawKept}
 use Rattle.mirror.specs.Writing.{TreeAsked, SheetAsked}
-use Rattle.mirror.specs.declared.mirror.Outcome.{Outcome}
-use Rattle.mirror.specs.declared.mirror.Outcome.TheVariants.{Mirrored, Refused}
 use Rattle.mirror.proofs.TreeWritten.{tree_long}
 use Rattle.mirror.proofs.SheetWritten.{sheet_long}
 use Rattle.mirror.proofs.LawKept.{held, tree_length, sheet_length, law_kept}
@@ -41,18 +37,19 @@ module _ (state : State) (tree_store sheet_store tree_buffer sheet_buffer : List
   abbrev rules : List FirstFault
   rules = mirror_rules state tree_store sheet_store tree_buffer sheet_buffer
 
-  -- all that is promised of a reply with that outcome, and of the buffers then
-  abbrev AllPromised : Outcome → List ℕ → List ℕ → Type 0
+  -- all that is promised of an outcome, and of the buffers then
+  abbrev AllPromised : FirstFault → List ℕ → List ℕ → Type 0
   AllPromised o tree_after sheet_after =
-      (record { state = state; outcome = o } ≡ reply_of state tree_store sheet_store tree_buffer sheet_buffer)
+      (o ≡ first_of rules)
       × ((tree_after ≡ tree_left state tree_store sheet_store tree_buffer sheet_buffer)
       × ((sheet_after ≡ sheet_left state tree_store sheet_store tree_buffer sheet_buffer)
       × LawKept (unit sheet) o state tree_store sheet_store tree_after sheet_after))
 
   -- a refusal leaves both buffers as they were
-  refused_all : (r : Refusal) → first_of rules ≡ Found r → AllPromised (Refused r) tree_buffer sheet_buffer
-  unfolding reply_of tree_left sheet_left
-  refused_all r e = rw e (refl, (refl, (refl, tt)))
+  refused_all : (o : FirstFault) (r : Refusal) → o ≡ Err r → first_of rules ≡ Err r
+      → AllPromised o tree_buffer sheet_buffer
+  unfolding tree_left sheet_left
+  refused_all o r q e = rw (q, e) (refl, (refl, (refl, tt)))
 
   abbrev short : FirstFault
   short = short_mirror state (length tree_buffer) (length sheet_buffer)
@@ -64,30 +61,30 @@ module _ (state : State) (tree_store sheet_store tree_buffer sheet_buffer : List
       first_of_append (pair_rules state tree_store sheet_store) (short ∷ [])
       ∙ ap (λ (g : FirstFault). g or_else first_of (short ∷ [])) e
 
-  module _ (found : Standing) (e : found ≡ pair_standing state tree_store sheet_store) where
+  module _ (found : Result Counts Refusal) (e : found ≡ pair_standing state tree_store sheet_store) where
     -- refused by the judging of the pair
-    pub refused_by_pair : (r : Refusal) → found ≡ standing.Refused r
-        → AllPromised (Refused r) tree_buffer sheet_buffer
+    pub refused_by_pair : (r : Refusal) → found ≡ Err r → (o : FirstFault) → o ≡ Err r
+        → AllPromised o tree_buffer sheet_buffer
     unfolding pair_standing
-    refused_by_pair r q = refused_all r (fault_is (Found r) (standing_found _ _ r (sym e ∙ q)))
+    refused_by_pair r q o p = refused_all o r p (fault_is (Err r) (refused_found _ _ r (sym e ∙ q)))
 
-    module _ (counts : Counts) (q : found ≡ standing.Ready counts) where
-      ready : pair_standing state tree_store sheet_store ≡ standing.Ready counts
+    module _ (counts : Counts) (q : found ≡ Ok counts) where
+      ready : pair_standing state tree_store sheet_store ≡ Ok counts
       ready = sym e ∙ q
 
-      pair_absent : first_of (pair_rules state tree_store sheet_store) ≡ Absent
+      pair_absent : first_of (pair_rules state tree_store sheet_store) ≡ Ok tt
       unfolding pair_standing
-      pair_absent = (ready_absent _ _ counts ready).0
+      pair_absent = (accepted_absent _ _ counts ready).0
 
       abbrev enough : Bool
       enough = leb state.tree_len (length tree_buffer) && leb state.sheet_len (length sheet_buffer)
 
       -- refused by 31
-      pub refused_by_room : enough ≡ false
-          → AllPromised (Refused (record { rule = ShortMirror; place = 0 })) tree_buffer sheet_buffer
-      refused_by_room lacks =
-          refused_all _
-          (fault_is Absent pair_absent
+      pub refused_by_room : enough ≡ false → (q : Refusal) → q ≡ refusal ShortMirror 0
+          → AllPromised (Err q) tree_buffer sheet_buffer
+      refused_by_room lacks q p =
+          refused_all _ _ (ap Err p)
+          (fault_is (Ok tt) pair_absent
           ∙ ap (λ b. first_of (unless b ShortMirror 0 ∷ [])) lacks)
 
       module _ (yes_enough : enough ≡ true) where
@@ -114,15 +111,15 @@ module _ (state : State) (tree_store sheet_store tree_buffer sheet_buffer : List
           room = rw (sheet_length state tree_store sheet_store counts ready) room.1;
         }
 
-        none_broken : first_of rules ≡ Absent
+        none_broken : first_of rules ≡ Ok tt
         none_broken =
-            fault_is Absent pair_absent ∙ ap (λ b. first_of (unless b ShortMirror 0 ∷ [])) yes_enough
+            fault_is (Ok tt) pair_absent ∙ ap (λ b. first_of (unless b ShortMirror 0 ∷ [])) yes_enough
 
         -- mirrored
         pub mirrored_all : (tree_after : List ℕ) → tree_after ≡ mirrored_tree tree ++ drop (length tree) tree_buffer
             → (sheet_after : List ℕ) → sheet_after ≡ mirrored_sheet sheet ++ drop (length sheet) sheet_buffer
-            → AllPromised Mirrored tree_after sheet_after
-        unfolding reply_of tree_left sheet_left
+            → AllPromised (Ok tt) tree_after sheet_after
+        unfolding tree_left sheet_left
         mirrored_all tree_after te sheet_after se =
             let tree_same = tree_long tree pair.pair.tree_well_formed.header in
             let sheet_same = sheet_long sheet pair.pair.sheet_well_formed.header in

@@ -4,12 +4,13 @@ use mathlib.Core.Path.{◌≡◌}
 use mathlib.Core.List.{List}
 use native.Mathlib.Omega.{arith}
 use Rattle.theory.specs.Trapezoid.{Rising}
-use Rattle.refusals.specs.declared.refusal.FirstFault.TheVariants.{Absent}
+use Rattle.std.specs.Prelude.{Ok}
 use Rattle.opinion_sheet.specs.Format.{event_count, kind, unit}
 use Rattle.opinion_sheet.specs.Judged.{fault_of, counts_of}
 use Rattle.opinion_sheet.specs.WellFormed.{WellFormed, WellFormedEntry}
 use Rattle.opinion_sheet.proofs.HeaderKept.{same_events, header_formed, scores_formed}
-use Rattle.opinion_sheet.proofs.Accepted.{accepted_absent, well_formed_accepted}
+use Rattle.refusals.proofs.FirstFault.{accepted_absent}
+use Rattle.opinion_sheet.proofs.Accepted.{well_formed_accepted}
 use Rattle.mirror.specs.Sheet.{mirrored_sheet, MirroredSheet}
 use Rattle.mirror.proofs.SheetWritten.{TurnedEntry, numbers_stay, fractions_come, turned_entry, numbers_turned}
 use Rattle.mirror.proofs.SheetWritten.{numbers, numbers_rising, sheet_long, header_bytes}
@@ -83,7 +84,7 @@ module _ (sheet : List ℕ) (formed : WellFormed sheet) where
       }
 
   -- and so without a fault
-  pub sheet_unfaulted : fault_of after ≡ Absent
+  pub sheet_unfaulted : fault_of after ≡ Ok tt
   sheet_unfaulted =
       (accepted_absent (fault_of after) (counts_of after) (counts_of after)
       (well_formed_accepted after sheet_well_formed)).0

@@ -1,15 +1,13 @@
 -- What an accepted sheet gives the functions that write its mirror.
-use Prim.Native.Nat.{ℕ, ◌+◌, ◌*◌, ◌≤◌, ◌<◌}
+use Prim.Native.Nat.{ℕ}
 use mathlib.Core.Path.{◌≡◌, refl}
 use mathlib.Core.List.{List}
-use native.Mathlib.Omega.{arith}
 use lib.ListN.{length}
 use Rattle.theory.specs.Trapezoid.{Trapezoid}
 use Rattle.opinion_sheet.specs.EntryRules.{entry_of}
 use Rattle.opinion_sheet.specs.declared.entry.Entry.{Entry}
 use Rattle.opinion_sheet.specs.declared.entry.Entry.TheVariants as entry
 use Rattle.mirror.specs.Sheet.{entry_with, mirrored_entry}
-use Rattle.mirror.specs.Writing.{SheetAsked}
 
 -- an entry is 17 bytes long
 entry_with_long : (x : Entry) (z : Trapezoid) → length (entry_with x z) ≡ 17
@@ -19,11 +17,3 @@ entry_with_long (entry.Fractions x) z = refl
 
 pub mirrored_long : (sheet : List ℕ) (e : ℕ) → length (mirrored_entry sheet e) ≡ 17
 mirrored_long sheet e = entry_with_long (entry_of sheet e) _
-
-module _ (sheet : List ℕ) (events : ℕ) (buffer : List ℕ) (asked : SheetAsked sheet events buffer) where
-  -- every entry lies inside the buffer
-  pub entries_room : 26 + 17 * events ≤ length buffer
-  entries_room = omega (arith, asked.events_is, asked.well_formed.header.length_value, asked.room)
-
-  pub entry_long : (e : ℕ) → e < events → length (mirrored_entry sheet e) ≡ 17
-  entry_long e l = mirrored_long sheet e

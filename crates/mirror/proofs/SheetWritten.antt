@@ -6,13 +6,13 @@ use native.Mathlib.Nat.{add-zero}
 use native.Mathlib.Omega.{arith}
 use lib.Dec.{lit<}
 use borrow.Author.Tests.{eq-eqb, ne_eqb}
-use lib.ListN.{length, take, drop}
-use lib.Seq.{take-length, take_at}
+use lib.ListN.{length, take}
+use lib.Seq.{take_at}
 use Rattle.theory.specs.Trapezoid.{Trapezoid, Rising}
 use Rattle.theory.specs.Dual.{trapezoid_complement}
 use Rattle.theory.proofs.DeMorgan.{complement_rising}
-use Rattle.fields.specs.Fields.{byte, with_parts}
-use Rattle.fields.proofs.Joined.{with_rest, with_before, with_length, with_part}
+use Rattle.fields.specs.Fields.{byte}
+use Rattle.fields.proofs.Joined.{with_before, with_length, with_part}
 use Rattle.opinion_sheet.specs.Format.{entry_at, event_count, kind, unit}
 use Rattle.opinion_sheet.specs.EntryRules.{numbers_of, fractions_of, last_byte, entry_of}
 use Rattle.opinion_sheet.specs.EventCut.{entry_trapezoid, event_trapezoid, numbers_trapezoid, fractions_trapezoid}
@@ -22,7 +22,6 @@ use Rattle.opinion_sheet.specs.declared.entry.Entry.TheVariants as entry
 use Rattle.opinion_sheet.proofs.EntryLaws.{kind_number, kind_read, entry_opinions, entry_fractions}
 use Rattle.opinion_sheet.proofs.EventRising.{event_rising, opinions_cuttable}
 use Rattle.mirror.specs.Sheet.{fractions_entry, entry_with, mirrored_entry, mirrored_sheet}
-use Rattle.mirror.specs.Writing.{SheetAsked}
 use Rattle.mirror.proofs.EntryBytes.{numbers_read, fractions_read}
 use Rattle.mirror.proofs.SheetAsked.{mirrored_long}
 
@@ -94,7 +93,10 @@ module _ (sheet : List ℕ) (formed : WellFormed sheet) (e : ℕ) (l : e < event
         → numbers.den ≡ U → TurnedEntry
     fractions_come : 0 < kind sheet e → kind after e ≡ 2
         → fractions_of after at
-        ≡ record { den = numbers.den; a = numbers.a; b = numbers.b; c = numbers.c; d = numbers.d }
+        ≡ record {
+          den = numbers.den;
+          numerators = record { a = numbers.a; b = numbers.b; c = numbers.c; d = numbers.d };
+        }
         → last_byte after at ≡ 0 → numbers.den ≤ 1000000 → TurnedEntry
 
   -- a fraction entry comes of an entry that is written as one
@@ -143,18 +145,3 @@ module _ (sheet : List ℕ) (formed : WellFormed sheet) (e : ℕ) (l : e < event
       go (fractions_come z y read last most) =
           rw (ne_eqb (kind after e) 0 (λ q. omega arith), ne_eqb (kind after e) 1 (λ q. omega arith))
           (ap fractions_trapezoid read)
-
--- The entries written over the copied sheet come to the mirrored sheet, and the rest of the buffer.
-module _ (sheet : List ℕ) (events : ℕ) (buffer : List ℕ) (asked : SheetAsked sheet events buffer) where
-  pub sheet_written : (copied : List ℕ) → copied ≡ take (length sheet) sheet ++ drop (length sheet) buffer
-      → (after : List ℕ) → after ≡ with_parts 26 17 (mirrored_entry sheet) events copied
-      → after ≡ mirrored_sheet sheet ++ drop (length sheet) buffer
-  unfolding mirrored_sheet
-  sheet_written copied copy written e =
-      let rest = drop (length sheet) buffer in
-      e
-      ∙ ap (with_parts 26 17 (mirrored_entry sheet) events)
-      (copy ∙ ap (λ (xs : List ℕ). xs ++ rest) (take-length sheet))
-      ∙ ap (λ n. with_parts 26 17 (mirrored_entry sheet) n (sheet ++ rest)) asked.events_is
-      ∙ with_rest 26 17 (mirrored_entry sheet) (event_count sheet) sheet
-      (entries_inside sheet asked.well_formed.header) rest

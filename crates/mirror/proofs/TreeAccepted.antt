@@ -10,7 +10,7 @@ use Rattle.theory.specs.NodeTable.{Owns, HasLink}
 use Rattle.theory.specs.Dual.{dual_node, DualTable}
 use Rattle.fields.specs.Fields.{field16}
 use Rattle.fields.proofs.Alike.{field16_alike}
-use Rattle.refusals.specs.declared.refusal.FirstFault.TheVariants.{Absent}
+use Rattle.std.specs.Prelude.{Ok}
 use Rattle.tree_file.specs.Format.{node_count, link_count, kind, field_a, link}
 use Rattle.tree_file.specs.Tallies.{is_basic, input_count, events_before, inputs_before, event_count}
 use Rattle.tree_file.specs.Judged.{fault_of, counts_of}
@@ -161,7 +161,7 @@ module _ (tree after : List ℕ) (m : MirroredTree tree after) where
         λ i. record { number = same_field 5 (lit< tt) i; nodes = nodes_kept i; events = events i }
 
     -- without a fault
-    pub tree_unfaulted : fault_of after ≡ Absent
+    pub tree_unfaulted : fault_of after ≡ Ok tt
     tree_unfaulted = well_formed_absent after tree_well_formed
 
     -- a node is the dual of what it was

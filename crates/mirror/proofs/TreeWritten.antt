@@ -6,15 +6,14 @@ use native.Mathlib.Nat.{add_assoc, add-zero}
 use native.Mathlib.Omega.{arith}
 use lib.Dec.{lit<}
 use lib.ListN.{length, take, drop, length-drop}
-use lib.Seq.{length-take-le, take-length, take_at, get_or-take, get_or-drop, ext_get_or}
+use lib.Seq.{length-take-le, take_at, get_or-take, get_or-drop, ext_get_or}
 use Rattle.fields.specs.Fields.{byte, field16, with_parts}
 use Rattle.fields.proofs.Alike.{field16_alike}
-use Rattle.fields.proofs.Joined.{with_rest, with_own, with_before, with_length, with_part, with_after}
+use Rattle.fields.proofs.Joined.{with_own, with_before, with_length, with_part, with_after}
 use Rattle.fields.proofs.Joined.{with_again}
 use Rattle.tree_file.specs.Format.{node_count, record_at, link_at, kind}
 use Rattle.tree_file.specs.WellFormed.{WellFormedHeader}
 use Rattle.mirror.specs.Tree.{exchanged, mirrored_record, mirrored_tree, MirroredTree}
-use Rattle.mirror.specs.Writing.{TreeAsked}
 use Rattle.mirror.proofs.DualKind.{and_exchanged, or_exchanged, other_exchanged, exchanged_twice}
 
 -- a file's part of five bytes, byte by byte
@@ -139,18 +138,3 @@ module _ (tree : List ℕ) (header : WellFormedHeader tree) where
 
       own : put (mirrored_record (mirrored_tree tree)) tree ≡ tree
       own = with_own 9 5 _ (node_count tree) tree records_inside record_restored
-
--- The records written over the copied file come to the mirrored file, and the rest of the buffer.
-module _ (tree : List ℕ) (nodes : ℕ) (buffer : List ℕ) (asked : TreeAsked tree nodes buffer) where
-  pub tree_written : (copied : List ℕ) → copied ≡ take (length tree) tree ++ drop (length tree) buffer
-      → (after : List ℕ) → after ≡ with_parts 9 5 (mirrored_record tree) nodes copied
-      → after ≡ mirrored_tree tree ++ drop (length tree) buffer
-  unfolding mirrored_tree
-  tree_written copied copy after e =
-      let rest = drop (length tree) buffer in
-      e
-      ∙ ap (with_parts 9 5 (mirrored_record tree) nodes)
-      (copy ∙ ap (λ (xs : List ℕ). xs ++ rest) (take-length tree))
-      ∙ ap (λ n. with_parts 9 5 (mirrored_record tree) n (tree ++ rest)) asked.nodes_is
-      ∙ with_rest 9 5 (mirrored_record tree) (node_count tree) tree (records_inside tree asked.well_formed.header)
-      rest

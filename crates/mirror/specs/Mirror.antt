@@ -1,27 +1,18 @@
 -- What mirroring answers, and what it leaves in the two lent buffers.
 use Rattle.std.specs.Prelude.{ℕ, ◌&&◌, List, [], ◌∷◌, ◌++◌, length, leb}
-use Rattle.refusals.specs.FirstFault.{unless, first_of}
 use Rattle.refusals.specs.declared.rule.Rule.TheVariants.{ShortMirror}
-use Rattle.refusals.specs.declared.refusal.FirstFault.{FirstFault}
-use Rattle.refusals.specs.declared.refusal.FirstFault.TheVariants.{Found, Absent}
+use Rattle.refusals.specs.FirstFault.{FirstFault, unless, first_of}
 use Rattle.monitor.specs.HandIn.{store_by}
 use Rattle.monitor.specs.Standing.{held_tree, held_sheet, pair_rules}
 use Rattle.monitor.specs.declared.state.State.{State}
 use Rattle.mirror.specs.Tree.{mirrored_tree}
 use Rattle.mirror.specs.Sheet.{mirrored_sheet}
-use Rattle.mirror.specs.declared.mirror.Outcome.{Outcome}
-use Rattle.mirror.specs.declared.mirror.Outcome.TheVariants.{Mirrored, Refused}
 use Rattle.mirror.specs.declared.mirror.Reply.{Reply}
 
 -- 31: a buffer is shorter than its held file.
 abbrev pub short_mirror : State → ℕ → ℕ → FirstFault
 short_mirror state tree_room sheet_room =
     unless (leb state.tree_len tree_room && leb state.sheet_len sheet_room) ShortMirror 0
-
--- Refused by the first fault, or mirrored.
-abbrev pub outcome_by : FirstFault → Outcome
-outcome_by (Found r) = Refused r
-outcome_by Absent = Mirrored
 
 module _ (state : State) (tree_store sheet_store tree_buffer sheet_buffer : List ℕ) where
   -- the rules of the mirror, in document 02's order: 21, 22, 23 tree, 23 sheet, 24, 31
@@ -30,9 +21,9 @@ module _ (state : State) (tree_store sheet_store tree_buffer sheet_buffer : List
       pair_rules state tree_store sheet_store
       ++ (short_mirror state (length tree_buffer) (length sheet_buffer) ∷ [])
 
-  -- the state comes back as it was
+  -- refused by the first fault, or mirrored; the state comes back as it was
   unfoldable pub reply_of : Reply
-  reply_of = record { state = state; outcome = outcome_by (first_of mirror_rules) }
+  reply_of = record { state = state; outcome = first_of mirror_rules }
 
   -- the mirrored files at the fronts of the buffers, as a hand-in leaves a file in its store
   unfoldable pub tree_left : List ℕ

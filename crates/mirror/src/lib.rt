@@ -4,5 +4,6 @@
 
 mod entry;
 pub mod mirror;
+mod parts;
 mod sheet;
 mod tree;

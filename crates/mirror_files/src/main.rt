@@ -2,12 +2,38 @@
 // and after it the mirrored sheet, or a line that says why not. Where that fails, it says so on standard error.
 #![tactic(auto)]
 
-mod answer;
-mod given;
+use fields::fields::field16_at;
+use mirror::mirror::mirror;
+use program_text::held::{Held, MOST_SHEET, MOST_TREE};
+use program_text::no_answer::{NoAnswer, tell};
+use program_text::read::{read_end, read_head, read_pair};
+
+// Mirrors the held pair, and writes the tree file and then the sheet.
+fn write_mirror(rt: &impl Print, held: &Held) -> Result<(), NoAnswer> {
+    let mut tree = [0; MOST_TREE];
+    let mut sheet = [0; MOST_SHEET];
+    let reply = mirror(held.state, &held.tree, &held.sheet, &mut tree, &mut sheet);
+    reply.outcome?;
+    rt.write_all(&tree[..held.state.tree_len])?;
+    rt.write_all(&sheet[..held.state.sheet_len])?;
+    Ok(())
+}
+
+// Reads the 16-bit lengths of the tree file and of the opinion sheet, low byte first, then the two files, and writes
+// the mirrored ones.
+fn write_answer(rt: &(impl Input + Print)) -> Result<(), NoAnswer> {
+    let head: [u8; 4] = read_head(rt)?;
+    let pair = read_pair(rt, field16_at(&head, 0), field16_at(&head, 2))?;
+    read_end(rt)?;
+    write_mirror(rt, &pair?)
+}
 
 fn main(rt: HostRuntime) {
-    let written = given::write_given(&rt);
-    if !written {
-        let _ = eprintln!(rt; "mirror_files: the files could not be written");
+    if let Err(no_answer) = write_answer(&rt) {
+        tell(
+            &rt,
+            no_answer,
+            "mirror_files: the files could not be written",
+        );
     }
 }

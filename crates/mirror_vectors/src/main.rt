@@ -6,7 +6,6 @@ mod call;
 mod run;
 
 fn main(rt: HostRuntime) {
-    let mut tree = [0u8; 8000];
-    let mut sheet = [0u8; 18000];
-    run::run(&rt, &mut tree, &mut sheet);
+    // A write that fails ends the list.
+    let _ = run::run(&rt);
 }

@@ -5,7 +5,7 @@ use mathlib.Core.Path.{◌≡◌, refl, sym, ◌∙◌}
 use mathlib.Core.List.{List, [], ◌∷◌}
 use lib.ListN.{length}
 use lib.Dec.{leb, leb-zero, leb-suc-suc}
-use Rattle.refusals.specs.declared.refusal.FirstFault.{FirstFault}
+use Rattle.refusals.specs.FirstFault.{FirstFault}
 use Rattle.tree_file.specs.Judged.{fault_of as tree_fault}
 use Rattle.opinion_sheet.specs.Judged.{fault_of as sheet_fault}
 use Rattle.evaluation.specs.Slices.{Slices}

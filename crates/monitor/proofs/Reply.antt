@@ -8,8 +8,8 @@ use lib.Dec.{leb}
 use borrow.Author.Tests.{leb-true}
 use Rattle.refusals.specs.FirstFault.{◌or_else◌, first_of}
 use Rattle.refusals.specs.declared.refusal.Refusal.{Refusal}
-use Rattle.refusals.specs.declared.refusal.FirstFault.{FirstFault}
-use Rattle.refusals.specs.declared.refusal.FirstFault.TheVariants.{Found, Absent}
+use Rattle.refusals.specs.FirstFault.{FirstFault}
+use Rattle.std.specs.Prelude.{Ok, Err}
 use Rattle.refusals.proofs.FirstFault.{first_of_append, unless_holds}
 use Rattle.tree_file.specs.Format.{node_count}
 use Rattle.tree_file.specs.declared.judgement.Counts.{Counts}
@@ -18,20 +18,17 @@ use Rattle.evaluation.specs.Slices.{Slices, Long}
 use Rattle.evaluation.specs.Report.{slices_after}
 use Rattle.evaluation.specs.Requirements.{Evaluable}
 use Rattle.monitor.specs.Standing.{held_tree, held_sheet, level_rules, short_slice, standing_of}
-use Rattle.monitor.specs.Question.{report_of, question_rules, outcome_of, reply_of, slices_left}
+use Rattle.monitor.specs.Question.{report_of, question_rules, outcome_of, slices_left}
 use Rattle.monitor.specs.Promise.{PromisesKept}
 use Rattle.monitor.specs.declared.state.State.{State}
-use Rattle.monitor.specs.declared.held.Standing.{Standing}
-use Rattle.monitor.specs.declared.held.Standing.TheVariants as standing
+use Rattle.std.specs.Prelude.{Result}
 use Rattle.monitor.specs.declared.question.Report.{Report}
-use Rattle.monitor.specs.declared.question.Outcome.{Outcome}
-use Rattle.monitor.specs.declared.question.Outcome.TheVariants.{Answered, Refused}
-use Rattle.monitor.proofs.Standing.{ready_absent, standing_found}
+use Rattle.refusals.proofs.FirstFault.{accepted_absent, refused_found}
 use Rattle.monitor.proofs.Ready.{ReadyPair, ready_pair}
 use Rattle.monitor.proofs.Answer.{answer_kept}
 
 -- Slices that are not too short are long enough.
-long_enough : (nodes : ℕ) (s : Slices) → short_slice nodes s ≡ Absent → Long nodes s
+long_enough : (nodes : ℕ) (s : Slices) → short_slice nodes s ≡ Ok tt → Long nodes s
 long_enough nodes s e =
     let first = leb nodes (length s.lower) in
     let second = leb nodes (length s.upper) in
@@ -53,9 +50,9 @@ module _ (state : State) (tree_store sheet_store : List ℕ) (k n : ℕ) (s : Sl
   sheet = held_sheet state sheet_store
 
   -- all that is promised of a reply with that outcome, and of the slices then
-  abbrev AllPromised : Outcome → Slices → Type 0
+  abbrev AllPromised : Result Report Refusal → Slices → Type 0
   AllPromised o left =
-      (record { state = state; outcome = o } ≡ reply_of state tree_store sheet_store k n s)
+      (o ≡ outcome_of state tree_store sheet_store k n s)
       × ((left ≡ slices_left state tree_store sheet_store k n s) × PromisesKept (unit sheet) o tree sheet k n left)
 
   -- the first fault: that of the judging, or else 25
@@ -67,7 +64,7 @@ module _ (state : State) (tree_store sheet_store : List ℕ) (k n : ℕ) (s : Sl
   last = first_of (short_slice (node_count tree) s ∷ [])
 
   -- a refusal leaves every slice as it was
-  refused_all : (r : Refusal) → fault ≡ Found r → AllPromised (Refused r) s
+  refused_all : (r : Refusal) → fault ≡ Err r → AllPromised (Err r) s
   unfolding outcome_of slices_left
   refused_all r e = rw e (refl, (refl, tt))
 
@@ -77,13 +74,13 @@ module _ (state : State) (tree_store sheet_store : List ℕ) (k n : ℕ) (s : Sl
       first_of_append (level_rules state tree_store sheet_store k n) (short_slice (node_count tree) s ∷ [])
       ∙ ap (λ (f : FirstFault). f or_else last) e
 
-  module _ (found : Standing) (e : found ≡ standing_of state tree_store sheet_store k n) where
+  module _ (found : Result Counts Refusal) (e : found ≡ standing_of state tree_store sheet_store k n) where
     -- refused by the judging
-    pub refused_by_judging : (r : Refusal) → found ≡ standing.Refused r → AllPromised (Refused r) s
+    pub refused_by_judging : (r : Refusal) → found ≡ Err r → AllPromised (Err r) s
     unfolding standing_of
-    refused_by_judging r q = refused_all r (fault_is (Found r) (standing_found _ _ r (sym e ∙ q)))
+    refused_by_judging r q = refused_all r (fault_is (Err r) (refused_found _ _ r (sym e ∙ q)))
 
-    module _ (counts : Counts) (q : found ≡ standing.Ready counts) where
+    module _ (counts : Counts) (q : found ≡ Ok counts) where
       -- what a pair that is ready is
       ready : ReadyPair state tree_store sheet_store k n counts
       ready = ready_pair state tree_store sheet_store k n counts (sym e ∙ q)
@@ -97,26 +94,27 @@ module _ (state : State) (tree_store sheet_store : List ℕ) (k n : ℕ) (s : Sl
         ready_fault : (f : FirstFault) → short ≡ f → fault ≡ first_of (f ∷ [])
         unfolding standing_of
         ready_fault f t =
-            fault_is Absent (ready_absent _ _ counts (sym e ∙ q)).0
+            fault_is (Ok tt) (accepted_absent _ _ counts (sym e ∙ q)).0
             ∙ ap (λ (f : FirstFault). first_of (f ∷ [])) (short_is f t)
 
         -- refused by 25
-        pub refused_by_slices : (r : Refusal) → short ≡ Found r → AllPromised (Refused r) s
-        refused_by_slices r t = refused_all r (ready_fault (Found r) t)
+        pub refused_by_slices : (r : Refusal) → short ≡ Err r → AllPromised (Err r) s
+        refused_by_slices r t = refused_all r (ready_fault (Err r) t)
 
-        module _ (t : short ≡ Absent) where
+        module _ (t : short ≡ Ok tt) where
           -- what the evaluation asks
-          pub evaluable : Evaluable tree sheet counts.nodes k n s
+          pub evaluable : Evaluable tree sheet s
           evaluable = record {
-            pair = ready.pair;
-            nodes_is = ap (λ (c : Counts). c.nodes) ready.counts_is;
-            long = long_enough counts.nodes s (sym se ∙ t);
+            tree_well_formed = ready.pair.tree_well_formed;
+            sheet_well_formed = ready.pair.sheet_well_formed;
+            same_events = ready.pair.same_events;
+            long = long_enough (node_count tree) s (short_is (Ok tt) t);
           }
 
           -- answered
           pub answered_all : (report : Report) → report ≡ report_of (unit sheet) tree sheet k n → (left : Slices)
-              → left ≡ slices_after (unit sheet) tree sheet k n s → AllPromised (Answered report) left
+              → left ≡ slices_after (unit sheet) tree sheet k n s → AllPromised (Ok report) left
           unfolding outcome_of slices_left
           answered_all report er left es =
-              rw (ready_fault Absent t, er, es)
-              (refl, (refl, answer_kept tree sheet counts.nodes k n s evaluable))
+              rw (ready_fault (Ok tt) t, er, es)
+              (refl, (refl, answer_kept tree sheet k n s evaluable ready.pair.level))

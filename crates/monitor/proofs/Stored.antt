@@ -6,8 +6,8 @@ use lib.ListN.{length}
 use borrow.Author.Tests.{le-leb}
 use Rattle.theory.specs.Rounding.{Direction}
 use Rattle.refusals.specs.FirstFault.{◌or_else◌, first_of}
-use Rattle.refusals.specs.declared.refusal.FirstFault.{FirstFault}
-use Rattle.refusals.specs.declared.refusal.FirstFault.TheVariants.{Absent}
+use Rattle.refusals.specs.FirstFault.{FirstFault}
+use Rattle.std.specs.Prelude.{Ok, Err}
 use Rattle.refusals.proofs.FirstFault.{first_of_append}
 use Rattle.tree_file.specs.Format.{node_count}
 use Rattle.tree_file.specs.declared.judgement.Counts.{Counts}
@@ -17,13 +17,12 @@ use Rattle.evaluation.specs.Report.{node_end, slices_after}
 use Rattle.monitor.specs.Standing.{held_tree, held_sheet, level_rules, short_slice, standing_of}
 use Rattle.monitor.specs.Question.{question_rules, slices_by, slices_left}
 use Rattle.monitor.specs.declared.state.State.{State}
-use Rattle.monitor.specs.declared.held.Standing.TheVariants.{Ready}
-use Rattle.monitor.proofs.Standing.{ready_absent}
+use Rattle.refusals.proofs.FirstFault.{accepted_absent}
 use Rattle.monitor.proofs.Ready.{ready_pair}
 use Rattle.monitor.proofs.Answer.{stored}
 
 module _ (state : State) (tree_store sheet_store : List ℕ) (k n : ℕ) (counts : Counts)
-    (e : standing_of state tree_store sheet_store k n ≡ Ready counts) (s : Slices)
+    (e : standing_of state tree_store sheet_store k n ≡ Ok counts) (s : Slices)
     (long : Long (node_count (held_tree state tree_store)) s) where
   abbrev tree : List ℕ
   tree = held_tree state tree_store
@@ -32,7 +31,7 @@ module _ (state : State) (tree_store sheet_store : List ℕ) (k n : ℕ) (counts
   sheet = held_sheet state sheet_store
 
   -- no slice is too short
-  not_short : short_slice (node_count tree) s ≡ Absent
+  not_short : short_slice (node_count tree) s ≡ Ok tt
   not_short =
       rw (
         le-leb (node_count tree) (length s.lower) long.lower_long,
@@ -40,12 +39,12 @@ module _ (state : State) (tree_store sheet_store : List ℕ) (k n : ℕ) (counts
         le-leb (node_count tree) (length s.marks) long.marks_long,
       )
 
-  judged : first_of (level_rules state tree_store sheet_store k n) ≡ Absent
+  judged : first_of (level_rules state tree_store sheet_store k n) ≡ Ok tt
   unfolding standing_of
-  judged = (ready_absent _ _ counts e).0
+  judged = (accepted_absent _ _ counts e).0
 
   -- no rule is broken
-  none_broken : first_of (question_rules state tree_store sheet_store k n s) ≡ Absent
+  none_broken : first_of (question_rules state tree_store sheet_store k n s) ≡ Ok tt
   none_broken =
       first_of_append (level_rules state tree_store sheet_store k n) (short_slice (node_count tree) s ∷ [])
       ∙ ap (λ (f : FirstFault). f or_else first_of (short_slice (node_count tree) s ∷ [])) judged
@@ -60,10 +59,12 @@ module _ (state : State) (tree_store sheet_store : List ℕ) (k n : ℕ) (counts
   pub left_stored : (w : Direction) (i : ℕ) → i < node_count tree
       → stored_end w (slices_left state tree_store sheet_store k n s) i ≡ node_end (unit sheet) w tree sheet k n i
   left_stored w i l =
+      let pair = (ready_pair state tree_store sheet_store k n counts e).pair in
       ap (λ (t : Slices). stored_end w t i) left
-      ∙ stored tree sheet (node_count tree) k n s
+      ∙ stored tree sheet k n s
       (record {
-        pair = (ready_pair state tree_store sheet_store k n counts e).pair;
-        nodes_is = refl;
+        tree_well_formed = pair.tree_well_formed;
+        sheet_well_formed = pair.sheet_well_formed;
+        same_events = pair.same_events;
         long = long;
-      }) w i l
+      }) pair.level w i l

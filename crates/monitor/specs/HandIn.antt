@@ -1,14 +1,11 @@
 -- What a hand-in answers, the state after it, and every byte of the store after it. A tree and a sheet go the same way:
 -- what differs is the fault of the file and which length the state holds.
-use Rattle.std.specs.Prelude.{ℕ, List, [], ◌∷◌, ◌++◌, length, drop, leb}
-use Rattle.refusals.specs.FirstFault.{unless, first_of}
+use Rattle.std.specs.Prelude.{ℕ, List, [], ◌∷◌, ◌++◌, length, drop, leb, Ok, Err}
+use Rattle.refusals.specs.FirstFault.{FirstFault, unless, first_of}
 use Rattle.refusals.specs.declared.rule.Rule.TheVariants.{ShortStore}
-use Rattle.refusals.specs.declared.refusal.FirstFault.{FirstFault}
-use Rattle.refusals.specs.declared.refusal.FirstFault.TheVariants.{Found, Absent}
 use Rattle.tree_file.specs.Judged.{fault_of as tree_fault}
 use Rattle.opinion_sheet.specs.Judged.{fault_of as sheet_fault}
 use Rattle.monitor.specs.declared.state.State.{State}
-use Rattle.monitor.specs.declared.hand_in.Verdict.TheVariants.{Accepted, Refused}
 use Rattle.monitor.specs.declared.hand_in.Answer.{Answer}
 
 -- A file is refused by its own fault; an accepted one must fit its store: 20 comes last.
@@ -17,14 +14,14 @@ hand_in_fault fault file store = first_of (fault ∷ unless (leb (length file) (
 
 -- The answer, by the state before and the state that holds the new file: a refusal changes nothing.
 abbrev pub answer_by : FirstFault → State → State → Answer
-answer_by (Found r) before after = record { state = before; verdict = Refused r }
-answer_by Absent before after = record { state = after; verdict = Accepted }
+answer_by (Err r) before after = record { state = before; verdict = Err r }
+answer_by (Ok tt) before after = record { state = after; verdict = Ok tt }
 
 -- The store after: the file at its front and the rest unchanged, or as it was where the file is refused. A file longer
 -- than the store, whose bytes would run beyond it, is refused by 20.
 abbrev pub store_by : FirstFault → List ℕ → List ℕ → List ℕ
-store_by (Found r) file store = store
-store_by Absent file store = file ++ drop (length file) store
+store_by (Err r) file store = store
+store_by (Ok tt) file store = file ++ drop (length file) store
 
 -- The answer for a file with that first fault.
 unfoldable pub handed_answer : FirstFault → List ℕ → List ℕ → State → State → Answer

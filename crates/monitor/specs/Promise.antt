@@ -2,7 +2,7 @@
 -- 004's interval, and the unreliability is the bottom-up reckoning. Demand 3: a marked end is the exact end; an
 -- unmarked one lies outward of it (a lower end below, an upper end above); either is off by less than 2 × E − 1 units.
 -- And the top probability lies between the two ends answered, these included.
-use Rattle.std.specs.Prelude.{ℕ, ◌-◌, ◌*◌, ◌<◌, List}
+use Rattle.std.specs.Prelude.{ℕ, ◌-◌, ◌*◌, ◌<◌, List, Result, Ok, Err}
 use Rattle.theory.specs.Fraction.{Fraction, SameProbability}
 use Rattle.theory.specs.Unreliability.{unreliability}
 use Rattle.theory.specs.BottomUp.{bottom_up}
@@ -14,10 +14,9 @@ use Rattle.tree_file.specs.NodeTable.{fault_tree}
 use Rattle.opinion_sheet.specs.EventCut.{event_cut}
 use Rattle.rounding.specs.Ends.{end_in}
 use Rattle.evaluation.specs.Slices.{Slices, stored_end}
+use Rattle.refusals.specs.declared.refusal.Refusal.{Refusal}
 use Rattle.monitor.specs.Question.{root}
 use Rattle.monitor.specs.declared.question.Report.{Report}
-use Rattle.monitor.specs.declared.question.Outcome.{Outcome}
-use Rattle.monitor.specs.declared.question.Outcome.TheVariants.{Answered, Refused}
 
 -- 2 × E − 1, by how many units an end may be off for E basic events: an accepted tree has at least one, so that the
 -- subtraction does not stop at 0.
@@ -51,6 +50,6 @@ pub record Kept (U : ℕ) (report : Report) (tree sheet : List ℕ) (k n : ℕ) 
 
 -- What `question` promises beside its definitions: demands 2 and 3, of every question that is answered. Of one that is
 -- refused it asks nothing, since no end is reported.
-abbrev pub PromisesKept : ℕ → Outcome → List ℕ → List ℕ → ℕ → ℕ → Slices → Type 0
-PromisesKept U (Refused r) tree sheet k n s = Unit {0}
-PromisesKept U (Answered report) tree sheet k n s = Kept U report tree sheet k n s
+abbrev pub PromisesKept : ℕ → Result Report Refusal → List ℕ → List ℕ → ℕ → ℕ → Slices → Type 0
+PromisesKept U (Err r) tree sheet k n s = Unit {0}
+PromisesKept U (Ok report) tree sheet k n s = Kept U report tree sheet k n s

@@ -1,9 +1,8 @@
 -- What a question answers and what it leaves in the work slices, by the level asked, the slices lent for it and the two
 -- files held. `question` answers `reply_of` and leaves `slices_left`.
-use Rattle.std.specs.Prelude.{ℕ, ◌-◌, List, [], ◌∷◌, ◌++◌}
-use Rattle.refusals.specs.FirstFault.{first_of}
-use Rattle.refusals.specs.declared.refusal.FirstFault.{FirstFault}
-use Rattle.refusals.specs.declared.refusal.FirstFault.TheVariants.{Found, Absent}
+use Rattle.std.specs.Prelude.{ℕ, ◌-◌, List, [], ◌∷◌, ◌++◌, Result, Ok, Err}
+use Rattle.refusals.specs.FirstFault.{FirstFault, first_of, judged_by}
+use Rattle.refusals.specs.declared.refusal.Refusal.{Refusal}
 use Rattle.tree_file.specs.Format.{node_count}
 use Rattle.tree_file.specs.Tallies.{event_count}
 use Rattle.opinion_sheet.specs.Format.{unit}
@@ -12,8 +11,6 @@ use Rattle.evaluation.specs.Report.{node_enclosure, slices_after}
 use Rattle.monitor.specs.Standing.{held_tree, held_sheet, level_rules, short_slice}
 use Rattle.monitor.specs.declared.state.State.{State}
 use Rattle.monitor.specs.declared.question.Report.{Report}
-use Rattle.monitor.specs.declared.question.Outcome.{Outcome}
-use Rattle.monitor.specs.declared.question.Outcome.TheVariants.{Answered, Refused}
 use Rattle.monitor.specs.declared.question.Reply.{Reply}
 
 -- The root is the last node, N − 1: an accepted tree has N at least 1, so the subtraction never stops at 0.
@@ -24,15 +21,10 @@ root tree = node_count tree - 1
 unfoldable pub report_of : ℕ → List ℕ → List ℕ → ℕ → ℕ → Report
 report_of U tree sheet k n = record { ends = node_enclosure U tree sheet k n (root tree); events = event_count tree }
 
--- Refused by the first fault, or answered.
-abbrev pub outcome_by : FirstFault → Report → Outcome
-outcome_by (Found r) report = Refused r
-outcome_by Absent report = Answered report
-
 -- The slices after: as evaluated where the question is answered, as they were where it is refused.
 abbrev pub slices_by : FirstFault → Slices → Slices → Slices
-slices_by (Found r) before after = before
-slices_by Absent before after = after
+slices_by (Err r) before after = before
+slices_by (Ok tt) before after = after
 
 module _ (state : State) (tree_store sheet_store : List ℕ) (k n : ℕ) (s : Slices) where
   -- the two files held
@@ -47,8 +39,8 @@ module _ (state : State) (tree_store sheet_store : List ℕ) (k n : ℕ) (s : Sl
   question_rules = level_rules state tree_store sheet_store k n ++ (short_slice (node_count tree) s ∷ [])
 
   -- the first refusal, or the root's results and E
-  unfoldable pub outcome_of : Outcome
-  outcome_of = outcome_by (first_of question_rules) (report_of (unit sheet) tree sheet k n)
+  unfoldable pub outcome_of : Result Report Refusal
+  outcome_of = judged_by (first_of question_rules) (report_of (unit sheet) tree sheet k n)
 
   -- the state comes back as it was
   abbrev pub reply_of : Reply

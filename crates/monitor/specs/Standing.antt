@@ -1,18 +1,15 @@
 -- Whether a level can be put to the held pair: document 01's refusals of a question as named faults, and the lists of
 -- them that a call goes through in order. Both held files are judged as their bytes stand.
-use Rattle.std.specs.Prelude.{ℕ, Bool, ◌&&◌, List, [], ◌∷◌, length, take, leb, eqb}
-use Rattle.refusals.specs.FirstFault.{unless, first_of}
+use Rattle.std.specs.Prelude.{ℕ, Bool, ◌&&◌, List, [], ◌∷◌, length, take, leb, eqb, Result, Ok, Err}
+use Rattle.refusals.specs.FirstFault.{FirstFault, unless, first_of, judged_by}
+use Rattle.refusals.specs.declared.refusal.Refusal.{Refusal}
 use Rattle.refusals.specs.declared.rule.Rule.TheVariants.{WrongLevel, NoTree, NoSheet, Changed, OtherTree, ShortSlice}
-use Rattle.refusals.specs.declared.refusal.FirstFault.{FirstFault}
-use Rattle.refusals.specs.declared.refusal.FirstFault.TheVariants.{Found, Absent}
 use Rattle.tree_file.specs.Judged.{fault_of as tree_fault, counts_of as tree_counts}
 use Rattle.tree_file.specs.declared.judgement.Counts.{Counts}
 use Rattle.opinion_sheet.specs.Judged.{fault_of as sheet_fault, counts_of as sheet_counts}
 use Rattle.opinion_sheet.specs.declared.judgement.Counts.{Counts as SheetCounts}
 use Rattle.evaluation.specs.Slices.{Slices}
 use Rattle.monitor.specs.declared.state.State.{State}
-use Rattle.monitor.specs.declared.held.Standing.{Standing}
-use Rattle.monitor.specs.declared.held.Standing.TheVariants.{Ready, Refused}
 
 -- The held bytes: the front of the store. A length beyond the store, of which the whole store would be taken, is
 -- refused by 23.
@@ -45,8 +42,8 @@ no_sheet state = unless (leb 1 state.sheet_len) NoSheet 0
 
 -- 23, in place of any fault of a held file.
 abbrev pub changed_by : ℕ → FirstFault → FirstFault
-changed_by place (Found r) = Found (record { rule = Changed; place = place })
-changed_by place Absent = Absent
+changed_by place (Err r) = Err (record { rule = Changed; place = place })
+changed_by place (Ok tt) = Ok tt
 
 -- 23: the held length is beyond the store, or the held bytes are no longer an accepted file.
 unfoldable pub changed : ℕ → (List ℕ → FirstFault) → ℕ → List ℕ → FirstFault
@@ -95,24 +92,19 @@ pair_rules state tree_store sheet_store =
 abbrev pub level_rules : State → List ℕ → List ℕ → ℕ → ℕ → List FirstFault
 level_rules state tree_store sheet_store k n = level_fault k n ∷ pair_rules state tree_store sheet_store
 
--- Refused by the first fault, or ready with the held tree's counts where there is none.
-abbrev pub standing_by : FirstFault → Counts → Standing
-standing_by (Found r) counts = Refused r
-standing_by Absent counts = Ready counts
-
--- The standing by a list of rules.
-abbrev pub standing : List FirstFault → State → List ℕ → Standing
-standing rules state tree_store = standing_by (first_of rules) (tree_counts (held_tree state tree_store))
+-- The standing by a list of rules: refused by the first fault, or ready with the held tree's counts where there is none.
+abbrev pub standing : List FirstFault → State → List ℕ → Result Counts Refusal
+standing rules state tree_store = judged_by (first_of rules) (tree_counts (held_tree state tree_store))
 
 -- The standing of the tree alone.
-unfoldable pub tree_standing : State → List ℕ → Standing
+unfoldable pub tree_standing : State → List ℕ → Result Counts Refusal
 tree_standing state tree_store = standing (tree_rules state tree_store) state tree_store
 
 -- The standing of the pair, for any level.
-unfoldable pub pair_standing : State → List ℕ → List ℕ → Standing
+unfoldable pub pair_standing : State → List ℕ → List ℕ → Result Counts Refusal
 pair_standing state tree_store sheet_store = standing (pair_rules state tree_store sheet_store) state tree_store
 
 -- The standing of the pair for level k of n.
-unfoldable pub standing_of : State → List ℕ → List ℕ → ℕ → ℕ → Standing
+unfoldable pub standing_of : State → List ℕ → List ℕ → ℕ → ℕ → Result Counts Refusal
 standing_of state tree_store sheet_store k n =
     standing (level_rules state tree_store sheet_store k n) state tree_store

@@ -1,65 +1,30 @@
 // Judges a level and the held files, afresh, before a call goes on: refusals 13, 21 to 24, and 25 of the slices.
 ghost use Rattle.std.specs.Prelude.{◌≡◌};
-ghost use Rattle.tree_file.specs.Judged.{fault_of as tree_fault, counts_of as tree_counts};
-ghost use Rattle.opinion_sheet.specs.Judged.{fault_of as sheet_fault, counts_of as sheet_counts};
-ghost use Rattle.opinion_sheet.specs.Judged.{judged_by};
-ghost use Rattle.evaluation.specs.Slices.{slices};
-ghost use Rattle.monitor.specs.Standing.{changed, fitting, held, in_range, short_slice, standing_by};
+ghost use Rattle.refusals.specs.FirstFault.{judged_by};
+ghost use Rattle.evaluation.specs.Slices.{contents};
+ghost use Rattle.monitor.specs.Standing.{changed, fitting, held, short_slice};
 ghost use Rattle.monitor.specs.Standing.{tree_standing, pair_standing, standing_of};
 
-use crate::held::Standing;
+use crate::held::{HeldFile, Sheet, Tree};
 use crate::state::State;
-use opinion_sheet::judgement::{Counts as SheetCounts, Judgement as SheetJudgement};
-use refusals::refusal::{FirstFault, Refusal};
+use evaluation::slices::WorkSlices;
+use opinion_sheet::judgement::Counts as SheetCounts;
+use opinion_sheet::level::Level;
+use refusals::refusal::Refusal;
 use refusals::rule::Rule;
-use tree_file::judgement::{Counts, Judgement as TreeJudgement};
+use tree_file::judgement::Counts;
 
-// A refusal that names no place.
-fn refused(rule: Rule) -> Standing
-    ensures { result ≡ Standing.Refused (record { rule = rule; place = 0 }) }
-{
-    Standing::Refused(Refusal { rule, place: 0 })
-}
-
-// Whether level k of n is in range.
-fn level_in_range(k: u32, n: u32) -> bool
-    ensures { result ≡ in_range k n }
-{
-    (1 <= n) & (n <= 1000) & (k <= n)
-}
-
-// The held tree file of that length, judged as its bytes stand.
-fn held_tree(len: usize, store: &[u8]) -> Standing
-    ensures { result ≡ standing_by (changed 0 tree_fault len store.now)
-        (tree_counts (held len store.now)) }
+// The held file of that length, judged as its bytes stand: whatever is wrong with it, it has changed.
+fn judge_held<F: HeldFile>(place: usize, len: usize, store: &[u8]) -> Result<F::Counts, Refusal>
+    ensures { result ≡ judged_by (changed place F.fault len store.now) (F.counts (held len store.now)) }
 {
     if store.len() < len {
-        return refused(Rule::Changed);
+        return Err(Rule::Changed.at(place));
     }
-    let judgement = tree_file::judge::judge(&store[..len]);
-    let TreeJudgement::Accepted(counts) = judgement else {
-        return refused(Rule::Changed);
-    };
-    Standing::Ready(counts)
-}
-
-// The held sheet of that length, judged as its bytes stand.
-fn held_sheet(len: usize, store: &[u8]) -> SheetJudgement
-    ensures { result ≡ judged_by (changed 1 sheet_fault len store.now)
-        (sheet_counts (held len store.now)) }
-{
-    let refusal = Refusal {
-        rule: Rule::Changed,
-        place: 1,
-    };
-    if store.len() < len {
-        return SheetJudgement::Refused(refusal);
+    match F::judge(&store[..len]) {
+        Ok(counts) => Ok(counts),
+        Err(_) => Err(Rule::Changed.at(place)),
     }
-    let judgement = opinion_sheet::judge::judge(&store[..len]);
-    let SheetJudgement::Accepted(counts) = judgement else {
-        return SheetJudgement::Refused(refusal);
-    };
-    SheetJudgement::Accepted(counts)
 }
 
 // Whether the sheet is for the tree and has an entry for each of its basic events.
@@ -69,62 +34,59 @@ fn fits(tree: Counts, sheet: SheetCounts) -> bool
     (tree.number == sheet.number) & (sheet.events == tree.events)
 }
 
-// Whether a call can go on with the held tree alone: refusals 21 and 23.
-pub fn judge_tree(state: State, tree_store: &[u8]) -> Standing
+// Whether a call can go on with the held tree alone, and its counts: refusals 21 and 23.
+pub fn judge_tree(state: State, tree_store: &[u8]) -> Result<Counts, Refusal>
     ensures { result ≡ tree_standing state tree_store.now }
 {
-    if 1 <= state.tree_len {
-        return held_tree(state.tree_len, tree_store);
+    if state.tree_len == 0 {
+        return Err(Rule::NoTree.at(0));
     }
-    refused(Rule::NoTree)
+    judge_held::<Tree>(0, state.tree_len, tree_store)
 }
 
-// Whether a call can go on with the held pair: refusals 21 to 24.
-pub fn judge_pair(state: State, tree_store: &[u8], sheet_store: &[u8]) -> Standing
+// Whether a call can go on with the held pair, and the tree's counts: refusals 21 to 24.
+pub fn judge_pair(state: State, tree_store: &[u8], sheet_store: &[u8]) -> Result<Counts, Refusal>
     ensures { result ≡ pair_standing state tree_store.now sheet_store.now }
 {
     if state.tree_len == 0 {
-        return refused(Rule::NoTree);
+        return Err(Rule::NoTree.at(0));
     }
     if state.sheet_len == 0 {
-        return refused(Rule::NoSheet);
+        return Err(Rule::NoSheet.at(0));
     }
-    let tree = held_tree(state.tree_len, tree_store);
-    let Standing::Ready(counts) = tree else {
-        return tree;
-    };
-    let sheet = held_sheet(state.sheet_len, sheet_store);
-    match sheet {
-        SheetJudgement::Refused(refusal) => Standing::Refused(refusal),
-        SheetJudgement::Accepted(sheet_counts) => {
-            if !fits(counts, sheet_counts) {
-                return refused(Rule::OtherTree);
-            }
-            Standing::Ready(counts)
-        }
+    let tree = judge_held::<Tree>(0, state.tree_len, tree_store)?;
+    let sheet = judge_held::<Sheet>(1, state.sheet_len, sheet_store)?;
+    if !fits(tree, sheet) {
+        return Err(Rule::OtherTree.at(0));
     }
+    Ok(tree)
 }
 
 // Whether level k of n can be put to the held pair: 13, then the pair's own refusals.
-pub fn judge(state: State, tree_store: &[u8], sheet_store: &[u8], k: u32, n: u32) -> Standing
+pub fn judge(
+    state: State,
+    tree_store: &[u8],
+    sheet_store: &[u8],
+    k: u32,
+    n: u32,
+) -> Result<Counts, Refusal>
     ensures { result ≡ standing_of state tree_store.now sheet_store.now k n }
 {
-    if !level_in_range(k, n) {
-        return refused(Rule::WrongLevel);
+    if Level::new(k, n).is_none() {
+        return Err(Rule::WrongLevel.at(0));
     }
     judge_pair(state, tree_store, sheet_store)
 }
 
 // Whether each work slice has a place for each of so many nodes: refusal 25.
-pub fn judge_slices(nodes: usize, lower: &[u32], upper: &[u32], marks: &[u8]) -> FirstFault
-    ensures { result ≡ short_slice nodes
-        (slices lower.now upper.now marks.now) }
+pub fn judge_slices(nodes: usize, slices: &WorkSlices) -> Result<(), Refusal>
+    ensures { result ≡ short_slice nodes (contents slices.now) }
 {
-    if (nodes <= lower.len()) & (nodes <= upper.len()) & (nodes <= marks.len()) {
-        return FirstFault::Absent;
+    let lower = slices.lower.len();
+    let upper = slices.upper.len();
+    let marks = slices.marks.len();
+    if (nodes <= lower) & (nodes <= upper) & (nodes <= marks) {
+        return Ok(());
     }
-    FirstFault::Found(Refusal {
-        rule: Rule::ShortSlice,
-        place: 0,
-    })
+    Err(Rule::ShortSlice.at(0))
 }

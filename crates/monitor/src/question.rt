@@ -1,20 +1,20 @@
 // Questioning a level: every node's ends and marks go to the lent work slices, and the root's are answered.
 ghost use Rattle.std.specs.Prelude.{◌≡◌};
 ghost use Rattle.theory.specs.Unit.{billion};
-ghost use Rattle.tree_file.specs.Tallies.{event_count};
-ghost use Rattle.evaluation.specs.Slices.{slices};
+ghost use Rattle.tree_file.specs.Judged.{counts_of};
+ghost use Rattle.evaluation.specs.Slices.{contents, SameSlices};
 ghost use Rattle.evaluation.specs.Report.{slices_after};
 ghost use Rattle.evaluation.specs.Requirements.{Evaluable};
 ghost use Rattle.monitor.specs.Standing.{held_tree, held_sheet};
-ghost use Rattle.monitor.specs.Question.{report_of, reply_of, slices_left};
+ghost use Rattle.monitor.specs.Question.{outcome_of, report_of, reply_of, slices_left};
 ghost use Rattle.monitor.specs.Promise.{PromisesKept};
 
-use crate::held::Standing;
 use crate::judge::{judge, judge_slices};
 use crate::state::State;
 use evaluation::evaluate::evaluate;
-use evaluation::stored::stored_ends;
-use refusals::refusal::{FirstFault, Refusal};
+use evaluation::slices::WorkSlices;
+use opinion_sheet::level::Level;
+use refusals::refusal::Refusal;
 use rounding::end::Enclosure;
 use tree_file::judgement::Counts;
 
@@ -25,18 +25,11 @@ pub struct Report {
     pub events: usize,
 }
 
-// Answered, or refused.
-#[derive(Clone, Copy)]
-pub enum Outcome {
-    Answered(Report),
-    Refused(Refusal),
-}
-
 // What a question answers: the state, unchanged, and the outcome.
 #[derive(Clone, Copy)]
 pub struct Reply {
     pub state: State,
-    pub outcome: Outcome,
+    pub outcome: Result<Report, Refusal>,
 }
 
 // Evaluates a pair that is ready and reads the root's place.
@@ -44,25 +37,48 @@ fn answered(
     tree: &[u8],
     sheet: &[u8],
     counts: Counts,
+    level: Level,
+    slices: &mut WorkSlices,
+) -> Report
+    requires evaluable { Evaluable tree.now sheet.now (contents slices.old) }
+    requires counts_value { counts ≡ counts_of tree.now }
+    ensures value { result ≡ report_of billion tree.now sheet.now level.k level.n }
+    ensures same_slices { SameSlices slices.new slices.old }
+    ensures work_slices { contents slices.new
+        ≡ slices_after billion tree.now sheet.now level.k level.n
+        (contents slices.old) }
+{
+    evaluate(tree, sheet, level, slices);
+    let root = counts.nodes - 1;
+    let ends = slices.ends(root);
+    let events = counts.events;
+    Report { ends, events }
+}
+
+// What a question comes to, and what it leaves in the work slices.
+fn outcome(
+    state: State,
+    tree_store: &[u8],
+    sheet_store: &[u8],
     k: u32,
     n: u32,
-    lower: &mut [u32],
-    upper: &mut [u32],
-    marks: &mut [u8],
-) -> Report
-    requires evaluable { Evaluable tree.now sheet.now counts.nodes k n (slices lower.old upper.old marks.old) }
-    requires events_value { counts.events ≡ event_count tree.now }
-    ensures value { result ≡ report_of billion tree.now sheet.now k n }
-    ensures work_slices { slices lower.new upper.new marks.new
-        ≡ slices_after billion tree.now sheet.now k n
-        (slices lower.old upper.old marks.old) }
+    slices: &mut WorkSlices,
+) -> Result<Report, Refusal>
+    ensures value { result ≡ outcome_of state tree_store.now sheet_store.now k n
+        (contents slices.old) }
+    ensures same_slices { SameSlices slices.new slices.old }
+    ensures work_slices { contents slices.new
+        ≡ slices_left state tree_store.now sheet_store.now k n
+        (contents slices.old) }
+    ensures promises_kept { PromisesKept billion result (held_tree state tree_store.now)
+        (held_sheet state sheet_store.now) k n
+        (contents slices.new) }
 {
-    let nodes = counts.nodes;
-    let events = counts.events;
-    evaluate(tree, sheet, nodes, k, n, lower, upper, marks);
-    let root = nodes - 1;
-    let ends = stored_ends(lower, upper, marks, root);
-    Report { ends, events }
+    let counts = judge(state, tree_store, sheet_store, k, n)?;
+    judge_slices(counts.nodes, slices)?;
+    let tree = &tree_store[..state.tree_len];
+    let sheet = &sheet_store[..state.sheet_len];
+    Ok(answered(tree, sheet, counts, Level { k, n }, slices))
 }
 
 // Questions level k of n. The last promise is demands 2 and 3, of the answer and of every node's place in the slices.
@@ -72,49 +88,18 @@ pub fn question(
     sheet_store: &[u8],
     k: u32,
     n: u32,
-    lower: &mut [u32],
-    upper: &mut [u32],
-    marks: &mut [u8],
+    slices: &mut WorkSlices,
 ) -> Reply
     ensures value { result ≡ reply_of state tree_store.now sheet_store.now k n
-        (slices lower.old upper.old marks.old) }
-    ensures work_slices { slices lower.new upper.new marks.new
+        (contents slices.old) }
+    ensures same_slices { SameSlices slices.new slices.old }
+    ensures work_slices { contents slices.new
         ≡ slices_left state tree_store.now sheet_store.now k n
-        (slices lower.old upper.old marks.old) }
+        (contents slices.old) }
     ensures promises_kept { PromisesKept billion result.outcome (held_tree state tree_store.now)
         (held_sheet state sheet_store.now) k n
-        (slices lower.new upper.new marks.new) }
+        (contents slices.new) }
 {
-    let standing = judge(state, tree_store, sheet_store, k, n);
-    match standing {
-        Standing::Refused(refusal) => Reply {
-            state,
-            outcome: Outcome::Refused(refusal),
-        },
-        Standing::Ready(counts) => {
-            let short = judge_slices(counts.nodes, lower, upper, marks);
-            if let FirstFault::Found(refusal) = short {
-                return Reply {
-                    state,
-                    outcome: Outcome::Refused(refusal),
-                };
-            }
-            let tree_len = state.tree_len;
-            let sheet_len = state.sheet_len;
-            let report = answered(
-                &tree_store[..tree_len],
-                &sheet_store[..sheet_len],
-                counts,
-                k,
-                n,
-                lower,
-                upper,
-                marks,
-            );
-            Reply {
-                state,
-                outcome: Outcome::Answered(report),
-            }
-        }
-    }
+    let outcome = outcome(state, tree_store, sheet_store, k, n, slices);
+    Reply { state, outcome }
 }

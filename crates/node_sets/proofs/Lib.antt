@@ -1,15 +1,15 @@
--- The laws behind the contracts: the set of a number; links, and a node's sets by those of its inputs; one turn of
--- counting, of the choice of an input, of a set and of a block of unions; a gate's sets input by input, one input more,
--- and a node's sets; that these are its minimal cut sets, and its count how many there are (Enumerated).
+-- The laws behind the contracts: the set of a number; links, and a node's sets by those of its inputs; how a gate's
+-- count grows with its inputs; what is counted at a node; a set by its number; a family's sets spread over others, and
+-- written with those of one input more; that a node's sets are its minimal cut sets, and its count how many there are
+-- (Enumerated).
 pub mod Bits
 pub mod Links
+pub mod LinkedSets
 pub mod Families
-pub mod GateCounts
+pub mod Growth
 pub mod CountTurn
-pub mod ChoiceTurn
-pub mod SetTurn
-pub mod BlockTurn
-pub mod GateWriting
-pub mod InputWriting
-pub mod WriteTurn
+pub mod GateInputs
+pub mod Parts
+pub mod Spreading
+pub mod Written
 pub mod Enumerated

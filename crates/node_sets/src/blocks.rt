@@ -1,9 +1,9 @@
 // Sets joined to those at the front of a slice, block by block.
-ghost use Rattle.std.specs.Prelude.{◌+◌, ◌≤◌, ◌<◌, length};
-ghost use Rattle.theory.specs.FaultTree.{all};
-ghost use Rattle.node_sets.specs.Requirements.{Block, Joinable, UnionsWritten};
+ghost use Rattle.std.specs.Prelude.{◌+◌, ◌*◌, ◌≤◌, ◌<◌, length};
+ghost use Rattle.node_sets.specs.Counted.{sets_of};
+ghost use Rattle.node_sets.specs.Requirements.{Block, UnionsWritten};
 
-use crate::sets::set_at;
+use crate::counted::CountedNode;
 
 // Joins a set to each of the first m; the unions stand from place `to` on, behind them or in their place.
 pub fn join_block(sets: &mut [u64], m: usize, to: usize, set: u64)
@@ -11,22 +11,19 @@ pub fn join_block(sets: &mut [u64], m: usize, to: usize, set: u64)
     requires m_le_to { 0 < to → m ≤ to }
     ensures { Block m to set sets.old sets.new }
 {
-    let mut p = 0;
-    while p < m {
+    for p in 0..m {
         sets[to + p] = sets[p] | set;
-        p += 1;
     }
 }
 
-// Joins each set of a node to each of the first m: a block of m places for each set, the first block last.
-pub fn spread(tree: &[u8], i: usize, m: usize, counts: &[u64], sets: &mut [u64])
-    requires { Joinable tree.now all i m counts.now sets.old }
-    ensures { UnionsWritten tree.now i m sets.old sets.new }
-{
-    let mut q = counts[i] as usize;
-    while 0 < q {
-        q -= 1;
-        let set = set_at(tree, i, q as u64, counts);
-        join_block(sets, m, q * m, set);
+impl CountedNode<'_> {
+    // Joins each of the node's sets to each of the first m: a block of m places for each, the first block last.
+    pub(crate) fn spread(self, m: usize, sets: &mut [u64])
+        requires { m * (sets_of self).count ≤ length sets.old }
+        ensures { UnionsWritten (sets_of self.entry) m sets.old sets.new }
+    {
+        for q in (0..self.count()).rev() {
+            join_block(sets, m, q as usize * m, self.set(q));
+        }
     }
 }

@@ -7,27 +7,24 @@ ghost use Rattle.node_sets.specs.Requirements.{Countable, CountedBeneath};
 use crate::inputs::{input_at, joined, neutral};
 use tree_file::node::{Node, node_at};
 
-// Counts the minimal cut sets of node i and of every node beneath it, each to its place.
+// Counts the minimal cut sets of node i and of every node beneath it, each to its place. Document 01 names this form; the
+// count is answered as well as kept, since the gate above joins it at once.
 pub fn count_beneath(tree: &[u8], i: usize, counts: &mut [u64]) -> u64
     requires { Countable tree.now i counts.old }
     ensures value { result ≡ (family (fault_tree tree.now i)).count }
     ensures counted_beneath { CountedBeneath tree.now i counts.old counts.new }
 {
-    let node = node_at(tree, i);
-    let Node::Gate(gate) = node else {
-        counts[i] = 1;
-        return 1;
+    let count = match node_at(tree, i) {
+        Node::Event(_) => 1,
+        Node::Gate(gate) => {
+            let mut total = neutral(gate.kind);
+            for j in gate.first..gate.first + gate.inputs {
+                let count = count_beneath(tree, input_at(tree, j), counts);
+                total = joined(gate.kind, total, count);
+            }
+            total
+        }
     };
-    let kind = gate.kind;
-    let end = gate.first + gate.inputs;
-    let mut total = neutral(kind);
-    let mut j = gate.first;
-    while j < end {
-        let input = input_at(tree, j);
-        let count = count_beneath(tree, input, counts);
-        total = joined(kind, total, count);
-        j += 1;
-    }
-    counts[i] = total;
-    total
+    counts[i] = count;
+    count
 }

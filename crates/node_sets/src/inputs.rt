@@ -9,6 +9,7 @@ ghost use Rattle.node_sets.specs.Requirements.{joined_count, neutral_count};
 use tree_file::node::{GateKind, linked_node, links_from};
 
 // The node that link j of the tree names.
+#[tactic(auto, using(crate::proofs::Links::link_named))]
 pub fn input_at(tree: &[u8], j: usize) -> usize
     requires { WellFormed tree.now × (j < link_count tree.now) }
     ensures { Is16 result (link tree.now j) }
@@ -18,6 +19,7 @@ pub fn input_at(tree: &[u8], j: usize) -> usize
 }
 
 // The number of sets of a gate without inputs: the empty union for AND, no alternative for OR.
+// Functions, and no methods: GateKind is of another crate, and a trait for its sake alone would be longer.
 pub fn neutral(kind: GateKind) -> u64
     ensures { result ≡ neutral_count (kind_as kind) }
 {

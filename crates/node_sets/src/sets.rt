@@ -1,14 +1,14 @@
 // A minimal cut set by its number: the number is taken apart from the node down.
+#![tactic(auto, using(crate::proofs::GateInputs::some_sets))]
+
 ghost use Rattle.std.specs.Prelude.{◌≡◌, ◌^◌, ◌<◌};
 ghost use Rattle.theory.specs.MinimalCutSets.{SameSet};
-ghost use Rattle.theory.specs.CutSetFamily.{family};
-ghost use Rattle.tree_file.specs.NodeTable.{fault_tree};
+ghost use Rattle.tree_file.specs.declared.node.GateKind.TheVariants.{All, Any};
+ghost use Rattle.node_sets.specs.Counted.{GateOf, sets_of};
 ghost use Rattle.node_sets.specs.Numbers.{members};
-ghost use Rattle.node_sets.specs.Requirements.{Listable};
 
-use crate::choice::choose;
-use crate::inputs::input_at;
-use tree_file::node::{GateKind, Node, node_at};
+use crate::counted::CountedNode;
+use tree_file::node::{Gate, GateKind, Node, node_at};
 
 // The number of the set of one event.
 pub fn event_alone(event: usize) -> u64
@@ -18,36 +18,57 @@ pub fn event_alone(event: usize) -> u64
     1u64 << event
 }
 
-// Set number r of node i: an OR has it from one input, an AND has a set from each.
-pub fn set_at(tree: &[u8], i: usize, r: u64, counts: &[u64]) -> u64
-    requires { Listable tree.now i r counts.now }
-    ensures { SameSet (members result) ((family (fault_tree tree.now i)).set r) }
-{
-    let node = node_at(tree, i);
-    match node {
-        Node::Event(event) => event_alone(event),
-        Node::Gate(gate) => {
-            let kind = gate.kind;
-            match kind {
-                GateKind::Any => {
-                    let choice = choose(tree, gate, r, counts);
-                    set_at(tree, choice.node, choice.number, counts)
-                }
-                GateKind::All => {
-                    let mut set = 0u64;
-                    let mut rest = r;
-                    let end = gate.first + gate.inputs;
-                    let mut j = gate.first;
-                    while j < end {
-                        let input = input_at(tree, j);
-                        let count = counts[input];
-                        set |= set_at(tree, input, rest % count, counts);
-                        rest /= count;
-                        j += 1;
-                    }
-                    set
-                }
-            }
+impl CountedNode<'_> {
+    // Set number r of the node.
+    #[cycle(sets)]
+    pub(crate) fn set(self, r: u64) -> u64
+        requires { r < (sets_of self).count }
+        ensures { SameSet (members result) ((sets_of self.entry).set r) }
+    {
+        match node_at(self.tree.file, self.node) {
+            Node::Event(event) => event_alone(event),
+            Node::Gate(gate) => match gate.kind {
+                GateKind::All => self.union(gate, r),
+                GateKind::Any => self.alternative(gate, r),
+            },
         }
+    }
+
+    // Set number r of an AND: the union of a set from each input.
+    #[cycle(sets)]
+    fn union(self, gate: Gate, r: u64) -> u64
+        requires gate { GateOf self All gate }
+        requires below { r < (sets_of self).count }
+        ensures { SameSet (members result) ((sets_of self.entry).set r) }
+    {
+        let mut set = 0;
+        let mut rest = r;
+        for j in gate.first..gate.first + gate.inputs {
+            let input = self.input(j);
+            let count = input.count();
+            set |= input.set(rest % count);
+            rest /= count;
+        }
+        set
+    }
+
+    // Set number r of an OR: a set of one input.
+    #[cycle(sets)]
+    fn alternative(self, gate: Gate, r: u64) -> u64
+        requires gate { GateOf self Any gate }
+        requires below { r < (sets_of self).count }
+        ensures { SameSet (members result) ((sets_of self.entry).set r) }
+    {
+        let mut rest = r;
+        for j in gate.first..gate.first + gate.inputs {
+            let input = self.input(j);
+            let count = input.count();
+            if rest < count {
+                return input.set(rest);
+            }
+            rest -= count;
+        }
+        // number r is below the count of all inputs
+        unreachable!()
     }
 }

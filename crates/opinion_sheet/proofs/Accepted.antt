@@ -4,37 +4,36 @@ use mathlib.Core.Path.{◌≡◌, refl}
 use mathlib.Core.List.{List}
 use native.Mathlib.Omega.{arith}
 use Rattle.refusals.specs.declared.refusal.Refusal.{Refusal}
-use Rattle.refusals.specs.declared.refusal.FirstFault.{FirstFault}
-use Rattle.refusals.specs.declared.refusal.FirstFault.TheVariants.{Found, Absent}
+use Rattle.refusals.specs.FirstFault.{FirstFault}
+use Rattle.std.specs.Prelude.{Ok, Err}
 use Rattle.refusals.proofs.FirstFault.{first_of_absent, among_each, among_absent}
 use Rattle.opinion_sheet.specs.Format.{event_count, unit}
 use Rattle.opinion_sheet.specs.EntryRules.{entry_fault}
 use Rattle.opinion_sheet.specs.Judged.{counts_of, judged_by, rules, fault_of, judged}
 use Rattle.opinion_sheet.specs.WellFormed.{WellFormed}
 use Rattle.opinion_sheet.specs.declared.judgement.Counts.{Counts}
-use Rattle.opinion_sheet.specs.declared.judgement.Judgement.TheVariants.{Accepted, Refused}
 use Rattle.opinion_sheet.proofs.HeaderLaws.{header_well_formed, header_absent}
 use Rattle.opinion_sheet.proofs.ScoreLaws.{scores_well_formed, scores_absent}
 use Rattle.opinion_sheet.proofs.EntryLaws.{entry_well_formed, entry_absent}
 
 -- A judgement that refuses comes of that fault.
-pub refused_found : (fault : FirstFault) (read : Counts) (r : Refusal) → judged_by fault read ≡ Refused r
-    → fault ≡ Found r
-refused_found (Found q) read r h = cc
-refused_found Absent read r h =
+pub refused_found : (fault : FirstFault) (read : Counts) (r : Refusal) → judged_by fault read ≡ Err r
+    → fault ≡ Err r
+refused_found (Err q) read r h = cc
+refused_found (Ok tt) read r h =
     let z : ◌≡◌ {A = ℕ} 0 1 = cc in
     absurd (omega arith)
 
 -- A judgement that accepts comes of no fault, with the counts.
-pub accepted_absent : (fault : FirstFault) (read counts : Counts) → judged_by fault read ≡ Accepted counts
-    → (fault ≡ Absent) × (counts ≡ read)
-accepted_absent Absent read counts h = (refl, cc)
-accepted_absent (Found r) read counts h =
+pub accepted_absent : (fault : FirstFault) (read counts : Counts) → judged_by fault read ≡ Ok counts
+    → (fault ≡ Ok tt) × (counts ≡ read)
+accepted_absent (Ok tt) read counts h = (refl, cc)
+accepted_absent (Err r) read counts h =
     let z : ◌≡◌ {A = ℕ} 0 1 = cc in
     absurd (omega arith)
 
 module _ (file : List ℕ) where
-  absent_well_formed : fault_of file ≡ Absent → WellFormed file
+  absent_well_formed : fault_of file ≡ Ok tt → WellFormed file
   unfolding fault_of
   absent_well_formed h =
       let parts = first_of_absent (rules file) h in
@@ -47,13 +46,13 @@ module _ (file : List ℕ) where
             (among_each (entry_fault (unit file) file) (event_count file) parts.1.1.0 e l);
       }
 
-  pub accepted_well_formed : (counts : Counts) → judged file ≡ Accepted counts → WellFormed file
+  pub accepted_well_formed : (counts : Counts) → judged file ≡ Ok counts → WellFormed file
   accepted_well_formed counts h = absent_well_formed (accepted_absent (fault_of file) (counts_of file) counts h).0
 
-  pub accepted_counts : (counts : Counts) → judged file ≡ Accepted counts → counts ≡ counts_of file
+  pub accepted_counts : (counts : Counts) → judged file ≡ Ok counts → counts ≡ counts_of file
   accepted_counts counts h = (accepted_absent (fault_of file) (counts_of file) counts h).1
 
-  pub well_formed_accepted : WellFormed file → judged file ≡ Accepted (counts_of file)
+  pub well_formed_accepted : WellFormed file → judged file ≡ Ok (counts_of file)
   unfolding fault_of
   well_formed_accepted w =
       rw (

@@ -10,12 +10,11 @@ use native.Mathlib.Decide.{ℕ_discrete, dec_lt}
 use native.Mathlib.Omega.{arith}
 use borrow.Author.Tests.{leb-true, leb-false, lt-leb, eqb-false, eq-eqb, ne_eqb}
 use Rattle.refusals.specs.Number.{number_of}
-use Rattle.refusals.specs.FirstFault.{unless, ◌or_else◌, first_of, first_among}
+use Rattle.refusals.specs.FirstFault.{FirstFault, unless, ◌or_else◌, first_of, first_among}
 use Rattle.refusals.specs.Order.{refusal, stage, order_place, Earlier, by_stage, by_place, by_number, First, Finds}
 use Rattle.refusals.specs.declared.rule.Rule.TheVariants as rule
 use Rattle.refusals.specs.declared.refusal.Refusal.{Refusal}
-use Rattle.refusals.specs.declared.refusal.FirstFault.{FirstFault}
-use Rattle.refusals.specs.declared.refusal.FirstFault.TheVariants.{Found, Absent}
+use Rattle.std.specs.Prelude.{Ok, Err}
 use Rattle.refusals.proofs.FirstFault.{unless_holds, among_each}
 use Rattle.refusals.proofs.Order.{first_unique}
 use Rattle.opinion_sheet.specs.Format.{has_letters, version, event_count, expert_count, required_length, score}
@@ -30,10 +29,9 @@ use Rattle.opinion_sheet.specs.WellFormed.{WellFormedHeader, WellFormedNumbers, 
 use Rattle.opinion_sheet.specs.Broken.{Outside, WrongScore, WrongTerm, Breaks, too_short, wrong_letters}
 use Rattle.opinion_sheet.specs.Broken.{wrong_version, wrong_events, wrong_experts, wrong_length, unknown_kind}
 use Rattle.opinion_sheet.specs.Broken.{wrong_score, number_order, wrong_term, nobody_spoke, wrong_fractions}
-use Rattle.opinion_sheet.specs.declared.entry.Numbers.{Numbers}
+use Rattle.opinion_sheet.specs.declared.numbers.Numbers.{Numbers}
 use Rattle.opinion_sheet.specs.declared.fractions.Fractions.{Fractions}
 use Rattle.opinion_sheet.specs.declared.judgement.Counts.{Counts}
-use Rattle.opinion_sheet.specs.declared.judgement.Judgement.TheVariants.{Accepted, Refused}
 use Rattle.opinion_sheet.proofs.HeaderLaws.{header_well_formed}
 use Rattle.opinion_sheet.proofs.Accepted.{refused_found, accepted_absent}
 use Rattle.opinion_sheet.proofs.BrokenRules.{outside_says, outside_shows, score_says, score_shows, term_says}
@@ -261,7 +259,7 @@ module _ (file : List ℕ) (e : ℕ) where
         (λ b. term_shows file (terms_at file e) i b.1))
 
     -- Where no term is out of rule, nobody spoke if no listed expert did.
-    all_silent : first_among (term_fault file (terms_at file e)) 16 ≡ Absent
+    all_silent : first_among (term_fault file (terms_at file e)) 16 ≡ Ok tt
         → ((i : ℕ) → i < expert_count file → term file (terms_at file e) i ≡ 0)
         → (i : ℕ) → i < 16 → term file (terms_at file e) i ≡ 0
     all_silent none silent i l = go (dec_lt i (expert_count file)) (dec_lt 0 (term file (terms_at file e) i))
@@ -276,7 +274,7 @@ module _ (file : List ℕ) (e : ℕ) where
             let broken = term_shows file (terms_at file e) i (WrongTerm.after (omega arith) d) in
             absurd (false≢true (sym broken ∙ kept))
 
-    finds_silence : first_among (term_fault file (terms_at file e)) 16 ≡ Absent → Finds Silence silence_fault
+    finds_silence : first_among (term_fault file (terms_at file e)) 16 ≡ Ok tt → Finds Silence silence_fault
     finds_silence none =
         finds_unless (spoke_among file (terms_at file e) 16) rule.NobodySpoke (entry_at file e) _
         (λ n. (z, λ i l. silence_says file (terms_at file e) 16 n i (omega arith)))
@@ -298,9 +296,9 @@ module _ (file : List ℕ) (e : ℕ) where
     finds_opinions : Finds Entry (entry_fault (unit file) file e)
     finds_opinions =
         rw (ne_eqb (kind file e) 0 (λ n. omega arith), eq-eqb (kind file e) 1 z)
-        (finds_same (first_among (term_fault file (terms_at file e)) 16 or_else (silence_fault or_else Absent))
+        (finds_same (first_among (term_fault file (terms_at file e)) 16 or_else (silence_fault or_else Ok tt))
         (λ q b. inr (inr (inr b))) from
-        (finds_either (first_among (term_fault file (terms_at file e)) 16) (silence_fault or_else Absent) finds_terms
+        (finds_either (first_among (term_fault file (terms_at file e)) 16) (silence_fault or_else Ok tt) finds_terms
         (λ none. finds_last Silence silence_fault (finds_silence none)) terms_silence))
       where
         from : (q : Refusal) → Entry q → Among Term 16 q ⊎ Silence q
@@ -369,11 +367,11 @@ module _ (file : List ℕ) where
   finds_whole : Finds Whole (fault_of file)
   unfolding fault_of
   finds_whole =
-      finds_either (header_fault file) (scores_fault file or_else (entries_fault (unit file) file or_else Absent))
+      finds_either (header_fault file) (scores_fault file or_else (entries_fault (unit file) file or_else Ok tt))
       (finds_header file)
       (λ h.
       let w = header_well_formed file h in
-      finds_either (scores_fault file) (entries_fault (unit file) file or_else Absent)
+      finds_either (scores_fault file) (entries_fault (unit file) file or_else Ok tt)
       (finds_scores file (omega (arith, w.length_value)))
       (λ s. finds_last (Among OfEntry (event_count file)) (entries_fault (unit file) file) (finds_entries w))
       scores_entries) header_rest
@@ -425,17 +423,17 @@ module _ (file : List ℕ) where
   pub first_broken : Finds (Breaks file) (fault_of file)
   first_broken = finds_same (fault_of file) breaks parted finds_whole
 
-  pub refused_first : (r : Refusal) → judged file ≡ Refused r → First (Breaks file) r
+  pub refused_first : (r : Refusal) → judged file ≡ Err r → First (Breaks file) r
   refused_first r h = subst (Finds (Breaks file)) (refused_found (fault_of file) (counts_of file) r h) first_broken
 
-  pub accepted_unbroken : (counts : Counts) → judged file ≡ Accepted counts → (q : Refusal) → Breaks file q → ⊥
+  pub accepted_unbroken : (counts : Counts) → judged file ≡ Ok counts → (q : Refusal) → Breaks file q → ⊥
   accepted_unbroken counts h =
       subst (Finds (Breaks file)) (accepted_absent (fault_of file) (counts_of file) counts h).0 first_broken
 
   -- A refusal is given under its condition and not otherwise: the first broken rule is the one refused by.
-  pub first_refused : (r : Refusal) → First (Breaks file) r → judged file ≡ Refused r
+  pub first_refused : (r : Refusal) → First (Breaks file) r → judged file ≡ Err r
   first_refused r h = go (fault_of file) refl
     where
-      go : (f : FirstFault) → fault_of file ≡ f → judged file ≡ Refused r
-      go (Found q) e = rw e (ap Refused (first_unique (subst (Finds (Breaks file)) e first_broken) h))
-      go Absent e = absurd (subst (Finds (Breaks file)) e first_broken r h.broken)
+      go : (f : FirstFault) → fault_of file ≡ f → judged file ≡ Err r
+      go (Err q) e = rw e (ap Err (first_unique (subst (Finds (Breaks file)) e first_broken) h))
+      go (Ok tt) e = absurd (subst (Finds (Breaks file)) e first_broken r h.broken)

@@ -2,20 +2,21 @@
 -- number and place; the limits; two faults in one sheet; document 01's P5 and P9 to P12; each of the seven terms;
 -- silence; and failures over starts.
 use Rattle.std.specs.Prelude.{ℕ, ◌≡◌, refl, List, [], ◌∷◌, ◌++◌, map, Bool, true, false, replicate}
+use Rattle.std.specs.Prelude.{Result, Ok, Err}
 use Rattle.theory.specs.Unit.{billion}
 use Rattle.theory.specs.Trapezoid.{cut}
 use Rattle.theory.specs.Rounding.{rounded, nothing_dropped, cut_end}
 use Rattle.fields.specs.Fields.{field16, field24, field32}
 use Rattle.refusals.specs.Number.{number_of}
 use Rattle.refusals.specs.FirstFault.{first_among}
+use Rattle.refusals.specs.declared.refusal.Refusal.{Refusal}
 use Rattle.rounding.specs.declared.end.Enclosure.{Enclosure}
 use Rattle.opinion_sheet.specs.HeaderRules.{header_fault}
 use Rattle.opinion_sheet.specs.TermRules.{spoke_among}
 use Rattle.opinion_sheet.specs.Judged.{fault_of, judged}
 use Rattle.opinion_sheet.specs.Opinion.{opinions_among}
 use Rattle.opinion_sheet.specs.EventCut.{cut_at}
-use Rattle.opinion_sheet.specs.declared.judgement.Judgement.{Judgement}
-use Rattle.opinion_sheet.specs.declared.judgement.Judgement.TheVariants.{Accepted, Refused}
+use Rattle.opinion_sheet.specs.declared.judgement.Counts.{Counts}
 
 -- Some bytes of 0.
 abbrev zeros : ℕ → List ℕ
@@ -109,9 +110,9 @@ pub data Answer : Type 0 where
   accepted : ℕ → ℕ → ℕ → Answer
   refused : ℕ → ℕ → Answer
 
-abbrev answer : Judgement → Answer
-answer (Accepted counts) = accepted counts.number counts.events counts.experts
-answer (Refused r) = refused (number_of r.rule) r.place
+abbrev answer : Result Counts Refusal → Answer
+answer (Ok counts) = accepted counts.number counts.events counts.experts
+answer (Err r) = refused (number_of r.rule) r.place
 
 -- A sheet with the answer that it must get.
 pub record Case : Type 0 where

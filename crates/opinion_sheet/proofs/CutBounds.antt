@@ -9,7 +9,7 @@ use native.Mathlib.Nat.{add-mul, mul-pos, le-mul_of_pos_right, add-sub_of_le}
 use native.Mathlib.Omega.{arith}
 use Rattle.theory.specs.Unit.{billion}
 use Rattle.theory.specs.Trapezoid.{Trapezoid}
-use Rattle.opinion_sheet.specs.Cut.{Level}
+use Rattle.opinion_sheet.specs.Cut.{IsLevel}
 use Rattle.opinion_sheet.specs.Requirements.{Cuttable}
 
 -- The exact lower end, over the denominator times n.
@@ -29,7 +29,7 @@ lower_top x k n a_b b_d k_n =
     let top : x.b * n ≤ x.d * n = mul-le-mul_right n b_d in
     omega arith
 
-module _ (units : ℕ) (x : Trapezoid) (k n : ℕ) (small : Cuttable billion units x) (level : Level k n) where
+module _ (units : ℕ) (x : Trapezoid) (k n : ℕ) (small : Cuttable billion units x) (level : IsLevel k n) where
   pub denominator_positive : 0 < x.den * n
   denominator_positive = mul-pos small.den_positive level.n_positive
 

@@ -7,7 +7,7 @@ use Rattle.theory.specs.Rounding.{Direction, down, up, cut_end}
 use Rattle.theory.proofs.RoundingMeaning.{rounded_scale, nothing_dropped_scale}
 use Rattle.rounding.specs.Ends.{as_code}
 use Rattle.opinion_sheet.specs.EventCut.{numbers_trapezoid, outward}
-use Rattle.opinion_sheet.specs.declared.entry.Numbers.{Numbers}
+use Rattle.opinion_sheet.specs.declared.numbers.Numbers.{Numbers}
 
 -- Four numbers in units as whole numbers.
 abbrev pub whole_units : Numbers → Trapezoid

@@ -8,13 +8,13 @@ use Rattle.theory.specs.Trapezoid.{Trapezoid, Rising}
 use Rattle.theory.specs.Opinion.{mean, total_score}
 use Rattle.theory.proofs.MeanRising.{mean_rising}
 use Rattle.opinion_sheet.specs.Format.{event_count, expert_count, unit}
-use Rattle.opinion_sheet.specs.EntryRules.{entry_of, numerators}
+use Rattle.opinion_sheet.specs.EntryRules.{entry_of}
 use Rattle.opinion_sheet.specs.WellFormed.{WellFormed, WellFormedScores, WellFormedOpinions, WellFormedEntry}
 use Rattle.opinion_sheet.specs.WellFormed.{WellFormedNumbers, WellFormedFractions}
 use Rattle.opinion_sheet.specs.Opinion.{opinions_among}
 use Rattle.opinion_sheet.specs.EventCut.{numbers_trapezoid, fractions_trapezoid, entry_trapezoid, event_trapezoid}
 use Rattle.opinion_sheet.specs.Requirements.{Cuttable, OpinionsInside}
-use Rattle.opinion_sheet.specs.declared.entry.Numbers.{Numbers}
+use Rattle.opinion_sheet.specs.declared.numbers.Numbers.{Numbers}
 use Rattle.opinion_sheet.specs.declared.fractions.Fractions.{Fractions}
 use Rattle.opinion_sheet.specs.declared.entry.Entry.{Entry}
 use Rattle.opinion_sheet.specs.declared.entry.Entry.TheVariants as entry
@@ -41,7 +41,7 @@ numbers_rising U units x w =
 
 -- The fractions of a well-formed entry rise, and can be cut.
 fractions_rising : (x : Fractions) (last : ℕ) → WellFormedFractions x last → Rising (fractions_trapezoid x)
-fractions_rising x last w = numbers_rising x.den w.den_least (numerators x) w.rising
+fractions_rising x last w = numbers_rising x.den w.den_least x.numerators w.rising
 
 pub fractions_cuttable : (U : ℕ) → 0 < U → (x : Fractions) (last : ℕ) → WellFormedFractions x last
     → Cuttable U U (fractions_trapezoid x)

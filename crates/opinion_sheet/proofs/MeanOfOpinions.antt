@@ -15,8 +15,9 @@ use Rattle.theory.proofs.MeanRising.{total_append, weighted_append, weighted_at_
 use Rattle.theory.proofs.MeanRising.{opinion_hundredths}
 use Rattle.opinion_sheet.specs.Format.{score, term}
 use Rattle.opinion_sheet.specs.Opinion.{terms_in_order, opinion_of, opinions_among}
-use Rattle.opinion_sheet.specs.Mean.{row_numbers, with_opinion}
+use Rattle.opinion_sheet.specs.Mean.{row_numbers, said_numbers, with_opinion}
 use Rattle.opinion_sheet.specs.Requirements.{SumsRoom}
+use Rattle.opinion_sheet.specs.declared.numbers.Numbers.{Numbers}
 use Rattle.opinion_sheet.specs.declared.mean.Sums.{Sums}
 
 -- The sums that the theory's mean of opinions is made of.
@@ -24,15 +25,17 @@ abbrev pub sums_of : List Opinion → Sums
 sums_of os =
     record {
       scores = total_score os;
-      a = weighted (λ z. z.a) os;
-      b = weighted (λ z. z.b) os;
-      c = weighted (λ z. z.c) os;
-      d = weighted (λ z. z.d) os;
+      weighted = record {
+        a = weighted (λ z. z.a) os;
+        b = weighted (λ z. z.b) os;
+        c = weighted (λ z. z.c) os;
+        d = weighted (λ z. z.d) os;
+      };
     }
 
--- Four numbers as the code lists them.
-abbrev pub in_order : Trapezoid → List ℕ
-in_order z = z.a ∷ z.b ∷ z.c ∷ z.d ∷ []
+-- The four numbers of a trapezoid without their denominator.
+abbrev pub four : Trapezoid → Numbers
+four z = record { a = z.a; b = z.b; c = z.c; d = z.d }
 
 -- A term's numbers in hundredths, a, b = c, d; the table has a row for each term.
 abbrev term_row : Term → List ℕ
@@ -43,17 +46,19 @@ term_rows = map term_row terms_in_order
 
 -- The sums with one opinion more at the end.
 sums_with : (os : List Opinion) (o : Opinion)
-    → with_opinion (sums_of os) (in_order (opinion_numbers o)) (score_of o) ≡ sums_of (os ++ (o ∷ []))
+    → with_opinion (sums_of os) (four (opinion_numbers o)) (score_of o) ≡ sums_of (os ++ (o ∷ []))
 sums_with os o =
     let added : (f : Trapezoid → ℕ) → weighted f os + score_of o * f (opinion_numbers o) ≡ weighted f (os ++ (o ∷ [])) =
     λ f. omega (arith, weighted_append f os (o ∷ [])) in
     let scores : total_score os + score_of o ≡ total_score (os ++ (o ∷ [])) = omega (arith, total_append os (o ∷ [])) in
     λ i. record {
       scores = scores i;
-      a = added (λ z. z.a) i;
-      b = added (λ z. z.b) i;
-      c = added (λ z. z.c) i;
-      d = added (λ z. z.d) i;
+      weighted = record {
+        a = added (λ z. z.a) i;
+        b = added (λ z. z.b) i;
+        c = added (λ z. z.c) i;
+        d = added (λ z. z.d) i;
+      };
     }
 
 row_at : (ts : List Term) (i : ℕ) → i < length ts → get_or (map term_row ts) i [] ≡ term_row (get_or ts i very_low)
@@ -69,28 +74,28 @@ opinion_score given code = go (dec_lt 0 code)
     go (yes l) = rw (ne_eqb code 0 (λ e. omega arith))
     go (no l) = rw (eq-eqb code 0 (omega arith))
 
-pub silence_numbers : (given code : ℕ) → code ≡ 0
-    → 0 ∷ 0 ∷ 100 ∷ 100 ∷ [] ≡ in_order (opinion_numbers (opinion_of given code))
-silence_numbers given code e = rw (eq-eqb code 0 e)
-
-pub term_numbers : (given code : ℕ) → (code ≡ 0 → ⊥) → code ≤ 7
-    → row_numbers (get_or term_rows (code - 1) []) ≡ in_order (opinion_numbers (opinion_of given code))
-term_numbers given code ne h =
-    rw (ne_eqb code 0 ne) (ap row_numbers (row_at terms_in_order (code - 1) (omega (arith, ne))))
+pub said_opinion : (given code : ℕ) → code ≤ 7
+    → said_numbers term_rows code ≡ four (opinion_numbers (opinion_of given code))
+said_opinion given code h = go (dec_lt 0 code)
+  where
+    go : Dec (0 < code) → said_numbers term_rows code ≡ four (opinion_numbers (opinion_of given code))
+    go (yes l) =
+        rw (ne_eqb code 0 (λ e. omega arith)) (ap row_numbers (row_at terms_in_order (code - 1) (omega arith)))
+    go (no l) = rw (eq-eqb code 0 (omega arith))
 
 -- Four numbers of at most 100, as those of an opinion are.
-abbrev pub Hundredths : List ℕ → Type 0
+abbrev pub Hundredths : Numbers → Type 0
 Hundredths numbers =
-    (get_or numbers 0 0 ≤ 100) × (get_or numbers 1 0 ≤ 100) × (get_or numbers 2 0 ≤ 100) × (get_or numbers 3 0 ≤ 100)
+    (numbers.a ≤ 100) × (numbers.b ≤ 100) × (numbers.c ≤ 100) × (numbers.d ≤ 100)
 
-numbers_most : (o : Opinion) → Hundredths (in_order (opinion_numbers o))
+numbers_most : (o : Opinion) → Hundredths (four (opinion_numbers o))
 numbers_most o =
     let rising = opinion_rising o in
     let den = opinion_hundredths o in
     (omega arith, omega arith, omega arith, omega arith)
 
-pub row_most : (code : ℕ) → (code ≡ 0 → ⊥) → code ≤ 7 → Hundredths (row_numbers (get_or term_rows (code - 1) []))
-row_most code ne h = subst Hundredths (sym (term_numbers 0 code ne h)) (numbers_most (opinion_of 0 code))
+pub said_most : (code : ℕ) → code ≤ 7 → Hundredths (said_numbers term_rows code)
+said_most code h = subst Hundredths (sym (said_opinion 0 code h)) (numbers_most (opinion_of 0 code))
 
 -- The sums of opinions are at most 100 × the scores, which are sixteen bytes at most.
 sum_most : (f : Trapezoid → ℕ) → ((o : Opinion) → f (opinion_numbers o) ≤ 100) → (os : List Opinion)
@@ -129,50 +134,35 @@ module _ (file : List ℕ) (terms : ℕ) where
           let here : i ≡ n = omega arith in
           omega (arith, ap (score file) here, total_more n)
 
--- A loop over n experts has the sums over the first i.
-pub record Summed (file : List ℕ) (terms n i : ℕ) (sums : Sums) : Type 0 where
-  pub within : i ≤ n
-  pub summed : sums ≡ sums_of (opinions_among file terms i)
-
-module _ (file : List ℕ) (terms n : ℕ) where
-  pub summed_none : Summed file terms n 0 (record { scores = 0; a = 0; b = 0; c = 0; d = 0 })
+  -- The sums with the next expert's opinion, by its bytes.
+  pub sums_more : (i : ℕ) → term file terms i ≤ 7
+      → with_opinion (sums_of (opinions_among file terms i)) (said_numbers term_rows (term file terms i)) (score file i)
+      ≡ sums_of (opinions_among file terms (i + 1))
   unfolding opinions_among
-  summed_none = record { within = omega arith; summed = refl }
+  sums_more i h =
+      let opinion = opinion_of (score file i) (term file terms i) in
+      let os = opinions_among file terms i in
+      rw (add-one i, said_opinion (score file i) (term file terms i) h)
+      (ap (with_opinion (sums_of os) (four (opinion_numbers opinion)))
+      (sym (opinion_score (score file i) (term file terms i)))
+      ∙ sums_with os opinion)
 
-  module _ {i : ℕ} {sums : Sums} (before : Summed file terms n i sums) (l : i < n) (numbers : List ℕ) (given : ℕ) where
-    pub summed_more : given ≡ score file i
-        → numbers ≡ in_order (opinion_numbers (opinion_of given (term file terms i))) → (after : Sums)
-        → after ≡ with_opinion sums numbers given → Summed file terms n (i + 1) after
-    unfolding opinions_among
-    summed_more g said after a =
-        let opinion = opinion_of (score file i) (term file terms i) in
-        let counted : score file i ≡ score_of opinion = sym (opinion_score (score file i) (term file terms i)) in
-        record {
-          within = omega arith;
-          summed =
-              rw (add-one i)
-              (a
-              ∙ rw (before.summed, said, g)
-              (ap (with_opinion (sums_of (opinions_among file terms i)) (in_order (opinion_numbers opinion))) counted
-              ∙ sums_with (opinions_among file terms i) opinion));
-        }
-
-    -- Bytes score at most 255, so the sums stay small.
-    pub summed_room : n ≤ 16 → ((j : ℕ) → score file j < 256) → Hundredths numbers → given < 256
-        → SumsRoom sums numbers given
-    summed_room m bytes most byte =
-        let scores = total_most file terms 255 i (λ j k. omega (arith, bytes j)) in
-        let os = opinions_among file terms i in
-        rw before.summed
-        (record {
-          scores_room = omega arith;
-          a_room = sum_most (λ z. z.a) (λ o. (numbers_most o).0) os (omega arith);
-          b_room = sum_most (λ z. z.b) (λ o. (numbers_most o).1) os (omega arith);
-          c_room = sum_most (λ z. z.c) (λ o. (numbers_most o).2) os (omega arith);
-          d_room = sum_most (λ z. z.d) (λ o. (numbers_most o).3) os (omega arith);
-          a_value = most.0;
-          b_value = most.1;
-          c_value = most.2;
-          d_value = most.3;
-          score_room = omega arith;
-        })
+  -- Bytes score at most 255, so the sums stay small.
+  pub sums_room : (i given code : ℕ) → i ≤ 16 → ((j : ℕ) → score file j < 256) → code ≤ 7 → given < 256
+      → SumsRoom (sums_of (opinions_among file terms i)) (said_numbers term_rows code) given
+  sums_room i given code m bytes h byte =
+      let scores = total_most 255 i (λ j k. omega (arith, bytes j)) in
+      let os = opinions_among file terms i in
+      let most = said_most code h in
+      record {
+        scores_room = omega arith;
+        a_room = sum_most (λ z. z.a) (λ o. (numbers_most o).0) os (omega arith);
+        b_room = sum_most (λ z. z.b) (λ o. (numbers_most o).1) os (omega arith);
+        c_room = sum_most (λ z. z.c) (λ o. (numbers_most o).2) os (omega arith);
+        d_room = sum_most (λ z. z.d) (λ o. (numbers_most o).3) os (omega arith);
+        a_value = most.0;
+        b_value = most.1;
+        c_value = most.2;
+        d_value = most.3;
+        score_room = omega arith;
+      }

@@ -1,18 +1,24 @@
 -- The entries: what each holds, and its fault, refusals 6, 10 to 12 and 28. U is the unit of the numbers.
-use Rattle.std.specs.Prelude.{ℕ, ◌+◌, List, Bool, cond, ◌&&◌, leb, eqb}
+use Rattle.std.specs.Prelude.{ℕ, ◌+◌, List, Bool, cond, ◌&&◌, leb, eqb, Option, Some, None, Err}
 use Rattle.fields.specs.Fields.{byte, field24, field32}
-use Rattle.refusals.specs.FirstFault.{unless, first_among}
+use Rattle.refusals.specs.FirstFault.{FirstFault, unless, first_among}
 use Rattle.refusals.specs.declared.rule.Rule.TheVariants as rule
-use Rattle.refusals.specs.declared.refusal.FirstFault.{FirstFault}
-use Rattle.refusals.specs.declared.refusal.FirstFault.TheVariants.{Found}
 use Rattle.opinion_sheet.specs.Format.{entry_at, event_count, kind, numbers_kind, opinions_kind, fractions_kind}
 use Rattle.opinion_sheet.specs.Format.{terms_at, max_denominator}
 use Rattle.opinion_sheet.specs.HeaderRules.{within}
 use Rattle.opinion_sheet.specs.TermRules.{opinions_fault}
-use Rattle.opinion_sheet.specs.declared.entry.Numbers.{Numbers}
+use Rattle.opinion_sheet.specs.declared.numbers.Numbers.{Numbers}
 use Rattle.opinion_sheet.specs.declared.fractions.Fractions.{Fractions}
 use Rattle.opinion_sheet.specs.declared.entry.Entry.{Entry}
 use Rattle.opinion_sheet.specs.declared.entry.Entry.TheVariants as entry
+use Rattle.opinion_sheet.specs.declared.kind.EntryKind.{EntryKind}
+use Rattle.opinion_sheet.specs.declared.kind.EntryKind.TheVariants as kinds
+
+-- The kind of a kind byte, if it is one.
+abbrev pub kind_of : ℕ → Option EntryKind
+kind_of byte =
+    cond (eqb byte numbers_kind) (Some kinds.Numbers)
+    (cond (eqb byte opinions_kind) (Some kinds.Opinions) (cond (eqb byte fractions_kind) (Some kinds.Fractions) None))
 
 -- The four numbers of the number entry at a place.
 abbrev pub numbers_of : List ℕ → ℕ → Numbers
@@ -29,10 +35,12 @@ abbrev pub fractions_of : List ℕ → ℕ → Fractions
 fractions_of file at =
     record {
       den = field24 file (at + 1);
-      a = field24 file (at + 4);
-      b = field24 file (at + 7);
-      c = field24 file (at + 10);
-      d = field24 file (at + 13);
+      numerators = record {
+        a = field24 file (at + 4);
+        b = field24 file (at + 7);
+        c = field24 file (at + 10);
+        d = field24 file (at + 13);
+      };
     }
 
 -- The byte after them, the entry's last.
@@ -55,13 +63,9 @@ numbers_rule U x = leb x.a x.b && leb x.b x.c && leb x.c x.d && leb x.d U
 abbrev pub numbers_fault : ℕ → List ℕ → ℕ → FirstFault
 numbers_fault U file at = unless (numbers_rule U (numbers_of file at)) rule.NumberOrder at
 
--- The numerators, in units of which the denominator makes 1.
-abbrev pub numerators : Fractions → Numbers
-numerators x = record { a = x.a; b = x.b; c = x.c; d = x.d }
-
 -- The numerators rise and are at most the denominator, which is 1 to 1,000,000, and the last byte is 0.
 abbrev pub fractions_rule : Fractions → ℕ → Bool
-fractions_rule x last = numbers_rule x.den (numerators x) && within 1 max_denominator x.den && eqb last 0
+fractions_rule x last = numbers_rule x.den x.numerators && within 1 max_denominator x.den && eqb last 0
 
 -- The fault of the fraction entry at a place.
 abbrev pub fractions_fault : List ℕ → ℕ → FirstFault
@@ -73,7 +77,7 @@ entry_fault U file event =
     cond (eqb (kind file event) numbers_kind) (numbers_fault U file (entry_at file event))
     (cond (eqb (kind file event) opinions_kind) (opinions_fault file (entry_at file event))
     (cond (eqb (kind file event) fractions_kind) (fractions_fault file (entry_at file event))
-    (Found (record { rule = rule.UnknownKind; place = entry_at file event }))))
+    (Err (record { rule = rule.UnknownKind; place = entry_at file event }))))
 
 -- The first fault among the entries, rising.
 abbrev pub entries_fault : ℕ → List ℕ → FirstFault

@@ -9,18 +9,18 @@ use Rattle.rounding.specs.declared.end.Enclosure.{Enclosure}
 use Rattle.opinion_sheet.specs.Format.{expert_count}
 use Rattle.opinion_sheet.specs.EntryRules.{entry_of}
 use Rattle.opinion_sheet.specs.Opinion.{opinions_among}
-use Rattle.opinion_sheet.specs.declared.entry.Numbers.{Numbers}
+use Rattle.opinion_sheet.specs.declared.numbers.Numbers.{Numbers}
 use Rattle.opinion_sheet.specs.declared.fractions.Fractions.{Fractions}
 use Rattle.opinion_sheet.specs.declared.entry.Entry.{Entry}
 use Rattle.opinion_sheet.specs.declared.entry.Entry.TheVariants as entry
 
--- Four numbers in units are fractions over U.
+-- Four numbers in units of which U make 1 are fractions over U.
 abbrev pub numbers_trapezoid : ℕ → Numbers → Trapezoid
 numbers_trapezoid U x = record { den = U; a = x.a; b = x.b; c = x.c; d = x.d }
 
 -- Four numerators over a denominator are fractions as they stand.
 abbrev pub fractions_trapezoid : Fractions → Trapezoid
-fractions_trapezoid x = record { den = x.den; a = x.a; b = x.b; c = x.c; d = x.d }
+fractions_trapezoid x = numbers_trapezoid x.den x.numerators
 
 -- The four numbers of an entry: as given, or the theory's mean of the opinions of the listed experts. Somebody spoke
 -- (rule 12), with a score of at least 1 (rule 7), so that the mean's denominator is not 0; a denominator that is given

@@ -1,8 +1,7 @@
 -- The rules of the header, refusals 1 to 5, in document 01's order: E before the experts.
 use Rattle.std.specs.Prelude.{ℕ, List, [], ◌∷◌, Bool, ◌&&◌, length, leb, eqb}
-use Rattle.refusals.specs.FirstFault.{unless, first_of}
+use Rattle.refusals.specs.FirstFault.{FirstFault, unless, first_of}
 use Rattle.refusals.specs.declared.rule.Rule.TheVariants as rule
-use Rattle.refusals.specs.declared.refusal.FirstFault.{FirstFault}
 use Rattle.opinion_sheet.specs.Format.{header_length, letters_place, version_place, events_place, experts_place}
 use Rattle.opinion_sheet.specs.Format.{has_letters, version, version_read, event_count, max_events}
 use Rattle.opinion_sheet.specs.Format.{expert_count, expert_places, required_length}

@@ -1,24 +1,21 @@
 -- What judging answers, whatever the bytes: the first fault in the order of document 01, or acceptance with the counts.
-use Rattle.std.specs.Prelude.{ℕ, List, [], ◌∷◌}
-use Rattle.refusals.specs.FirstFault.{first_of}
-use Rattle.refusals.specs.declared.refusal.FirstFault.{FirstFault}
-use Rattle.refusals.specs.declared.refusal.FirstFault.TheVariants.{Found, Absent}
+use Rattle.std.specs.Prelude.{ℕ, List, [], ◌∷◌, Result, Ok, Err}
+use Rattle.refusals.specs.FirstFault.{FirstFault, first_of}
+use Rattle.refusals.specs.declared.refusal.Refusal.{Refusal}
 use Rattle.opinion_sheet.specs.Format.{tree_number, event_count, expert_count, unit}
 use Rattle.opinion_sheet.specs.HeaderRules.{header_fault}
 use Rattle.opinion_sheet.specs.ScoreRules.{scores_fault}
 use Rattle.opinion_sheet.specs.EntryRules.{entries_fault}
 use Rattle.opinion_sheet.specs.declared.judgement.Counts.{Counts}
-use Rattle.opinion_sheet.specs.declared.judgement.Judgement.{Judgement}
-use Rattle.opinion_sheet.specs.declared.judgement.Judgement.TheVariants.{Accepted, Refused}
 
 -- What an accepted file holds.
 abbrev pub counts_of : List ℕ → Counts
 counts_of file = record { number = tree_number file; events = event_count file; experts = expert_count file }
 
 -- The answer by the fault: refused with it, or accepted with the counts where it is absent.
-abbrev pub judged_by : FirstFault → Counts → Judgement
-judged_by (Found r) counts = Refused r
-judged_by Absent counts = Accepted counts
+abbrev pub judged_by : FirstFault → Counts → Result Counts Refusal
+judged_by (Err r) counts = Err r
+judged_by (Ok tt) counts = Ok counts
 
 -- The faults of a file's parts, in order.
 abbrev pub rules : List ℕ → List FirstFault
@@ -29,5 +26,5 @@ unfoldable pub fault_of : List ℕ → FirstFault
 fault_of file = first_of (rules file)
 
 -- The judgement of a file, whatever its bytes.
-abbrev pub judged : List ℕ → Judgement
+abbrev pub judged : List ℕ → Result Counts Refusal
 judged file = judged_by (fault_of file) (counts_of file)

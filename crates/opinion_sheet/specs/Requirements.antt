@@ -1,10 +1,11 @@
 -- What inner functions ask of their callers, so that every read is inside the file and every sum fits. It stands for
 -- contracts of inner functions only: `judge` asks nothing, and a well-formed file gives all of this to `cut_at`.
-use Rattle.std.specs.Prelude.{ℕ, ◌+◌, ◌*◌, ◌≤◌, ◌<◌, List, length, get_or}
+use Rattle.std.specs.Prelude.{ℕ, ◌+◌, ◌*◌, ◌≤◌, ◌<◌, List, length}
 use Rattle.theory.specs.Trapezoid.{Trapezoid}
 use Rattle.theory.specs.Opinion.{total_score}
 use Rattle.opinion_sheet.specs.Format.{header_length, entry_length, expert_count, expert_places, term, max_term}
 use Rattle.opinion_sheet.specs.Opinion.{opinions_among}
+use Rattle.opinion_sheet.specs.declared.numbers.Numbers.{Numbers}
 use Rattle.opinion_sheet.specs.declared.mean.Sums.{Sums}
 
 -- An entry at a place lies inside a file that has a header.
@@ -22,16 +23,16 @@ pub record OpinionsInside (file : List ℕ) (terms : ℕ) : Type 0 where
   pub score_least : 1 ≤ total_score (opinions_among file terms (expert_count file))
 
 -- The sums leave room in 32 bits for one opinion more, whose numbers are at most 100.
-pub record SumsRoom (sums : Sums) (numbers : List ℕ) (given : ℕ) : Type 0 where
+pub record SumsRoom (sums : Sums) (numbers : Numbers) (given : ℕ) : Type 0 where
   pub scores_room : sums.scores ≤ 1_000_000
-  pub a_room : sums.a ≤ 1_000_000
-  pub b_room : sums.b ≤ 1_000_000
-  pub c_room : sums.c ≤ 1_000_000
-  pub d_room : sums.d ≤ 1_000_000
-  pub a_value : get_or numbers 0 0 ≤ 100
-  pub b_value : get_or numbers 1 0 ≤ 100
-  pub c_value : get_or numbers 2 0 ≤ 100
-  pub d_value : get_or numbers 3 0 ≤ 100
+  pub a_room : sums.weighted.a ≤ 1_000_000
+  pub b_room : sums.weighted.b ≤ 1_000_000
+  pub c_room : sums.weighted.c ≤ 1_000_000
+  pub d_room : sums.weighted.d ≤ 1_000_000
+  pub a_value : numbers.a ≤ 100
+  pub b_value : numbers.b ≤ 100
+  pub c_value : numbers.c ≤ 100
+  pub d_value : numbers.d ≤ 100
   pub score_room : given ≤ 255
 
 -- Numerators rise to at most U when counted in so many units to 1, over a denominator small enough for 64 bits.

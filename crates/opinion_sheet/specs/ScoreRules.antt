@@ -1,8 +1,7 @@
 -- The rule of the experts' scores, refusal 7.
 use Rattle.std.specs.Prelude.{ℕ, ◌+◌, List, Bool, cond, ltb, eqb}
-use Rattle.refusals.specs.FirstFault.{unless, first_among}
+use Rattle.refusals.specs.FirstFault.{FirstFault, unless, first_among}
 use Rattle.refusals.specs.declared.rule.Rule.TheVariants as rule
-use Rattle.refusals.specs.declared.refusal.FirstFault.{FirstFault}
 use Rattle.opinion_sheet.specs.Format.{expert_count, expert_places, score, scores_place, max_score}
 use Rattle.opinion_sheet.specs.HeaderRules.{within}
 

@@ -1,8 +1,7 @@
 -- The rules of an opinion entry, refusals 11 and 12; 11 comes first.
 use Rattle.std.specs.Prelude.{ℕ, zero, suc, ◌+◌, List, [], ◌∷◌, Bool, false, cond, ◌||◌, not, ltb, leb, eqb}
-use Rattle.refusals.specs.FirstFault.{unless, first_of, first_among}
+use Rattle.refusals.specs.FirstFault.{FirstFault, unless, first_of, first_among}
 use Rattle.refusals.specs.declared.rule.Rule.TheVariants as rule
-use Rattle.refusals.specs.declared.refusal.FirstFault.{FirstFault}
 use Rattle.opinion_sheet.specs.Format.{expert_count, expert_places, max_term, term}
 
 -- A term is at most 7 for a listed expert and 0 after the last.

@@ -6,8 +6,8 @@ use Rattle.opinion_sheet.specs.Format.{has_letters, version, version_read, event
 use Rattle.opinion_sheet.specs.Format.{expert_places, required_length, score, max_score, entry_at, kind}
 use Rattle.opinion_sheet.specs.Format.{numbers_kind, opinions_kind, fractions_kind, terms_at, term, max_term}
 use Rattle.opinion_sheet.specs.Format.{max_denominator, unit}
-use Rattle.opinion_sheet.specs.EntryRules.{numbers_of, fractions_of, last_byte, numerators}
-use Rattle.opinion_sheet.specs.declared.entry.Numbers.{Numbers}
+use Rattle.opinion_sheet.specs.EntryRules.{numbers_of, fractions_of, last_byte}
+use Rattle.opinion_sheet.specs.declared.numbers.Numbers.{Numbers}
 use Rattle.opinion_sheet.specs.declared.fractions.Fractions.{Fractions}
 
 -- The header, and the length that it asks for. Any tree number will do.
@@ -44,7 +44,7 @@ pub record WellFormedFractions (x : Fractions) (last : ℕ) : Type 0 where
   pub den_least : 1 ≤ x.den
   pub den_most : x.den ≤ max_denominator
   -- the numerators rise to at most the denominator
-  pub rising : WellFormedNumbers x.den (numerators x)
+  pub rising : WellFormedNumbers x.den x.numerators
   -- the byte is 0
   pub last_zero : last ≡ 0
 

@@ -4,58 +4,54 @@ ghost use Rattle.theory.specs.Unit.{billion};
 ghost use Rattle.theory.specs.Trapezoid.{cut};
 ghost use Rattle.opinion_sheet.specs.Format.{event_count};
 ghost use Rattle.opinion_sheet.specs.WellFormed.{WellFormed, WellFormedNumbers};
-ghost use Rattle.opinion_sheet.specs.Cut.{Level};
 ghost use Rattle.opinion_sheet.specs.EventCut.{fractions_trapezoid, numbers_trapezoid, outward, cut_at};
 ghost use Rattle.opinion_sheet.specs.Requirements.{Cuttable};
 
-use crate::entry::{Entry, Numbers, read_entry};
+use crate::entry::{Entry, read_entry};
 use crate::fractions::Fractions;
+use crate::level::Level;
 use crate::mean::mean_of;
+use crate::numbers::Numbers;
 use rounding::direction::Direction;
 use rounding::divide::divided;
 use rounding::end::Enclosure;
 use rounding::unit::UNIT;
 
-// The cut of four fractions at level k of n, in so many units to 1.
-fn cut_of(x: Fractions, units: u64, k: u64, n: u64) -> Enclosure
-    requires { Cuttable billion units (fractions_trapezoid x) × Level k n }
-    ensures { result ≡ outward units (cut (fractions_trapezoid x) k n) }
+// The cut of four fractions at a level, in so many units to 1.
+fn cut_of(x: Fractions, units: u64, level: Level) -> Enclosure
+    requires { Cuttable billion units (fractions_trapezoid x) }
+    ensures { result ≡ outward units (cut (fractions_trapezoid x) level.k level.n) }
 {
-    let low = (x.a * n + (x.b - x.a) * k) * units;
-    let high = (x.d * n - (x.d - x.c) * k) * units;
-    let den = x.den * n;
+    let (k, n) = (level.k as u64, level.n as u64);
+    let Numbers { a, b, c, d } = x.numerators;
+    let low = (a as u64 * n + (b - a) as u64 * k) * units;
+    let high = (d as u64 * n - (d - c) as u64 * k) * units;
+    let den = x.den as u64 * n;
     let lower = divided(Direction::Down, low, den);
     let upper = divided(Direction::Up, high, den);
     Enclosure { lower, upper }
 }
 
 // The cut of four numbers in units: whole numbers of them need no denominator.
-fn cut_numbers(x: Numbers, k: u32, n: u32) -> Enclosure
-    requires { WellFormedNumbers billion x × Level k n }
-    ensures { result ≡ outward billion (cut (numbers_trapezoid billion x) k n) }
+fn cut_numbers(x: Numbers, level: Level) -> Enclosure
+    requires { WellFormedNumbers billion x }
+    ensures { result ≡ outward billion (cut (numbers_trapezoid billion x) level.k level.n) }
 {
     let whole = Fractions {
         den: 1,
-        a: x.a as u64,
-        b: x.b as u64,
-        c: x.c as u64,
-        d: x.d as u64,
+        numerators: x,
     };
-    cut_of(whole, 1, k as u64, n as u64)
+    cut_of(whole, 1, level)
 }
 
-// The cut of an event at level k of n, in a well-formed file.
-pub fn cut_at(file: &[u8], event: usize, k: u32, n: u32) -> Enclosure
-    requires { WellFormed file.now × (event < event_count file.now) × Level k n }
-    ensures { result ≡ cut_at billion file.now event k n }
+// The cut of an event at a level, in a well-formed file.
+pub fn cut_at(file: &[u8], event: usize, level: Level) -> Enclosure
+    requires { WellFormed file.now × (event < event_count file.now) }
+    ensures { result ≡ cut_at billion file.now event level.k level.n }
 {
-    let entry = read_entry(file, event);
-    match entry {
-        Entry::Numbers(x) => cut_numbers(x, k, n),
-        Entry::Opinions(terms) => {
-            let mean = mean_of(file, terms);
-            cut_of(mean, UNIT, k as u64, n as u64)
-        }
-        Entry::Fractions(x) => cut_of(x, UNIT, k as u64, n as u64),
+    match read_entry(file, event) {
+        Entry::Numbers(x) => cut_numbers(x, level),
+        Entry::Opinions(terms) => cut_of(mean_of(file, terms), UNIT, level),
+        Entry::Fractions(x) => cut_of(x, UNIT, level),
     }
 }

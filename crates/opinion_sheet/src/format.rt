@@ -36,21 +36,13 @@ pub const MAX_SCORE: usize = 100;
 pub const MAX_TERM: usize = 7;
 
 // The highest denominator of fractions.
-pub const MAX_DENOMINATOR: u64 = 1_000_000;
-
-// The kinds of an entry: four numbers, opinions, fractions.
-pub const NUMBERS_KIND: usize = 0;
-
-pub const OPINIONS_KIND: usize = 1;
-
-pub const FRACTIONS_KIND: usize = 2;
+pub const MAX_DENOMINATOR: u32 = 1_000_000;
 
 // Whether the file begins with FTS.
 pub fn has_letters(file: &[u8]) -> bool
-    requires { header_length ≤ length file.now }
     ensures { result ≡ has_letters file.now }
 {
-    (file[0] == b'F') & (file[1] == b'T') & (file[2] == b'S')
+    file.starts_with(b"FTS")
 }
 
 // E, the number of basic events.

@@ -5,31 +5,23 @@ ghost use Rattle.opinion_sheet.specs.Judged.{judged};
 use crate::entry::judge_entries;
 use crate::format::{NUMBER_PLACE, event_count, expert_count};
 use crate::header::judge_header;
-use crate::judgement::{Counts, Judgement};
+use crate::judgement::Counts;
 use crate::scores::judge_scores;
 use fields::fields::field16_at;
-use refusals::refusal::FirstFault;
+use refusals::refusal::Refusal;
 
 // The first fault of a file in document 01's order, or its counts.
-pub fn judge(file: &[u8]) -> Judgement
+#[tactic(auto, unfolding(crate::specs::Judged::fault_of))]
+pub fn judge(file: &[u8]) -> Result<Counts, Refusal>
     ensures { result ≡ judged file.now }
 {
-    let header = judge_header(file);
-    if let FirstFault::Found(refusal) = header {
-        return Judgement::Refused(refusal);
-    }
-    let scores = judge_scores(file);
-    if let FirstFault::Found(refusal) = scores {
-        return Judgement::Refused(refusal);
-    }
+    judge_header(file)?;
+    judge_scores(file)?;
     let number = field16_at(file, NUMBER_PLACE);
     let events = event_count(file);
     let experts = expert_count(file);
-    let entries = judge_entries(file, events);
-    if let FirstFault::Found(refusal) = entries {
-        return Judgement::Refused(refusal);
-    }
-    Judgement::Accepted(Counts {
+    judge_entries(file, events)?;
+    Ok(Counts {
         number,
         events,
         experts,

@@ -5,13 +5,15 @@
 
 pub mod cut;
 pub mod entry;
-mod fault;
 pub mod format;
 pub mod fractions;
 mod header;
 pub mod judge;
 pub mod judgement;
+pub mod kind;
+pub mod level;
 pub mod mean;
+pub mod numbers;
 mod opinions;
 mod scores;
 mod terms;

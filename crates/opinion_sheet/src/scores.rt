@@ -1,32 +1,38 @@
 // The sixteen score bytes: refusal 7.
-ghost use Rattle.std.specs.Prelude.{◌≡◌, ◌≤◌, length};
-ghost use Rattle.opinion_sheet.specs.Format.{header_length};
-ghost use Rattle.opinion_sheet.specs.ScoreRules.{scores_fault};
+ghost use Rattle.std.specs.Prelude.{◌≡◌, ◌≤◌, ◌<◌, length};
+ghost use Rattle.opinion_sheet.specs.Format.{expert_places, header_length};
+ghost use Rattle.opinion_sheet.specs.ScoreRules.{score_fault, scores_fault};
 
-use crate::fault::broken;
 use crate::format::{EXPERT_PLACES, MAX_SCORE, SCORES_PLACE, expert_count};
-use crate::header::in_range;
 use fields::fields::byte_at;
-use refusals::refusal::FirstFault;
+use refusals::refusal::Refusal;
 use refusals::rule::Rule;
 
-// The first fault among the scores: 1 to 100 for a listed expert, 0 after the last.
-pub fn judge_scores(file: &[u8]) -> FirstFault
+// The fault of an expert's score: 1 to 100 for a listed expert, 0 after the last.
+fn judge_score(file: &[u8], expert: usize) -> Result<(), Refusal>
+    requires { (header_length ≤ length file.now) × (expert < expert_places) }
+    ensures { result ≡ score_fault file.now expert }
+{
+    let place = SCORES_PLACE + expert;
+    let score = byte_at(file, place);
+    if expert < expert_count(file) {
+        if !(1..=MAX_SCORE).contains(&score) {
+            return Err(Rule::WrongField.at(place));
+        }
+    } else if score != 0 {
+        return Err(Rule::WrongField.at(place));
+    }
+    Ok(())
+}
+
+// The first fault among the sixteen scores.
+#[tactic(auto, using(crate::proofs::Rows::row))]
+pub fn judge_scores(file: &[u8]) -> Result<(), Refusal>
     requires { header_length ≤ length file.now }
     ensures { result ≡ scores_fault file.now }
 {
-    let experts = expert_count(file);
-    let mut expert: usize = 0;
-    while expert < EXPERT_PLACES {
-        let score = byte_at(file, SCORES_PLACE + expert);
-        if expert < experts {
-            if !in_range(1, MAX_SCORE, score) {
-                return broken(Rule::WrongField, SCORES_PLACE + expert);
-            }
-        } else if score != 0 {
-            return broken(Rule::WrongField, SCORES_PLACE + expert);
-        }
-        expert += 1;
+    for expert in 0..EXPERT_PLACES {
+        judge_score(file, expert)?;
     }
-    FirstFault::Absent
+    Ok(())
 }

@@ -6,9 +6,10 @@ use native.Mathlib.Omega.{arith}
 use mathlib.Core.Path.{◌≡◌, refl, sym, ap, ◌∙◌, subst}
 use mathlib.Core.Bool.{Bool, true, false}
 use mathlib.Core.List.{List, [], ◌∷◌, ◌++◌}
-use lib.ListN.{length, get_or, length-append}
+use lib.ListN.{length, length-append}
 use lib.Dec.{ltb, lit<}
 use borrow.Author.Tests.{ltb-true, ltb-false}
+use Rattle.std.proofs.lemmas.List.{get_or_append_left}
 use Rattle.printer.specs.Decimal.{digit, decimal, IsDigit, AllDigits, read_after, read_back, DecimalOf}
 use Rattle.printer.proofs.Digits.{tenth_below, decimal_one, decimal_more}
 
@@ -22,11 +23,6 @@ read_more : (before : ℕ) (xs : List ℕ) (y : ℕ)
     → read_after before (xs ++ (y ∷ [])) ≡ 10 * read_after before xs + (y - 48)
 read_more before [] y = refl
 read_more before (x ∷ xs) y = read_more (10 * before + (x - 48)) xs y
-
--- it leaves the first digit where there is one
-first_kept : (xs ys : List ℕ) → 1 ≤ length xs → get_or (xs ++ ys) 0 0 ≡ get_or xs 0 0
-first_kept [] ys l = absurd (omega arith)
-first_kept (x ∷ xs) ys l = refl
 
 -- a number of one digit
 one_means : (n : ℕ) → n < 10 → DecimalOf n (digit n ∷ [])
@@ -48,7 +44,7 @@ more_means n tenth l t =
       digits = digits_more tenth (n % 10) last t.digits;
       says = read_more 0 tenth (digit (n % 10)) ∙ omega (arith, t.says);
       no_leading_zero = λ e.
-          let none = (t.no_leading_zero (sym (first_kept tenth (digit (n % 10) ∷ []) t.not_empty) ∙ e)).0 in
+          let none = (t.no_leading_zero (sym (get_or_append_left tenth (digit (n % 10) ∷ []) 0 0 t.not_empty) ∙ e)).0 in
           absurd (omega arith);
     }
 

@@ -1,4 +1,4 @@
--- The text for files that are handed in and for files that are held: a refusal, or what is printed then.
+-- The files that are handed in and held: the first refusal, and what the stores hold where there is none.
 use Prim.Native.Nat.{ℕ, suc, ◌≤◌}
 use native.Mathlib.Omega.{arith}
 use mathlib.Core.Path.{◌≡◌, refl, sym, ap, ap₂, ◌∙◌}
@@ -6,71 +6,64 @@ use mathlib.Core.List.{List, [], ◌∷◌, ◌++◌}
 use lib.ListN.{length, take, drop, replicate, length-append, length-replicate}
 use lib.Seq.{take-length, take-append_seam}
 use borrow.Author.Tests.{le-leb}
-use Rattle.refusals.specs.FirstFault.{◌or_else◌, first_of}
+use Rattle.std.specs.Prelude.{Result, Ok, Err}
+use Rattle.refusals.specs.FirstFault.{FirstFault, first_of}
+use Rattle.refusals.proofs.FirstFault.{accepted_absent, refused_found}
 use Rattle.refusals.specs.declared.refusal.Refusal.{Refusal}
-use Rattle.refusals.specs.declared.refusal.FirstFault.{FirstFault}
-use Rattle.refusals.specs.declared.refusal.FirstFault.TheVariants.{Found, Absent}
 use Rattle.tree_file.specs.Judged.{fault_of as tree_fault, counts_of}
 use Rattle.tree_file.specs.declared.judgement.Counts.{Counts}
 use Rattle.opinion_sheet.specs.Judged.{fault_of as sheet_fault}
 use Rattle.monitor.specs.HandIn.{hand_in_fault, answer_by, store_by, handed_answer, handed_store, holding_tree}
 use Rattle.monitor.specs.HandIn.{holding_sheet, tree_answer, tree_store, sheet_answer, sheet_store, nothing_held}
-use Rattle.monitor.specs.Standing.{changed, held_tree, held_sheet, level_fault, no_tree, no_sheet, tree_changed}
-use Rattle.monitor.specs.Standing.{sheet_changed, other_tree, level_rules, standing_of}
+use Rattle.monitor.specs.Standing.{changed, held_tree, held_sheet, level_fault, no_tree, no_sheet, other_tree}
+use Rattle.monitor.specs.Standing.{level_rules, standing_of}
 use Rattle.monitor.specs.declared.state.State.{State}
-use Rattle.monitor.specs.declared.held.Standing.{Standing}
-use Rattle.monitor.specs.declared.held.Standing.TheVariants as standing
-use Rattle.monitor.specs.declared.hand_in.Verdict.TheVariants.{Accepted, Refused}
 use Rattle.monitor.specs.declared.hand_in.Answer.{Answer}
-use Rattle.monitor.proofs.Standing.{ready_absent, standing_found}
-use Rattle.printer.specs.Line.{refusal_line, header_line}
+use Rattle.printer.specs.Line.{header_line}
 use Rattle.printer.specs.Input.{most_tree, most_sheet}
-use Rattle.printer.specs.Text.{lines_below, levels_text, text_by, text_of}
-use Rattle.printer.specs.Held.{ReadyAt, held_text, sheet_text}
-use Rattle.printer.specs.Put.{Put}
-use Rattle.printer.proofs.Puts.{put_as, put_then}
+use Rattle.printer.specs.Text.{first_refusal, holding, lines_below, levels_text}
+use Rattle.printer.specs.Held.{ReadyAt}
 
--- The text for files that are held, by what the question's judging found.
-module _ (state : State) (tree_store sheet_store : List ℕ) (n : ℕ) (found : Standing)
-    (e : found ≡ standing_of state tree_store sheet_store n n) where
-  -- the tree file held
-  abbrev tree_here : List ℕ
-  tree_here = held_tree state tree_store
+-- Files that are held, by what the question's judging found.
+module _ (state : State) (tree_bytes sheet_bytes : List ℕ) (n : ℕ) (found : Result Counts Refusal)
+    (e : found ≡ standing_of state tree_bytes sheet_bytes n n) where
+  -- the first fault of the question
+  abbrev question_fault : FirstFault
+  question_fault = first_of (level_rules state tree_bytes sheet_bytes n n)
 
-  -- the levels of the files held
-  abbrev levels_here : List ℕ
-  levels_here = levels_text tree_here (held_sheet state sheet_store) n
-
-  -- by the first fault
-  held_by : (f : FirstFault) → first_of (level_rules state tree_store sheet_store n n) ≡ f
-      → text_by f levels_here ≡ held_text state tree_store sheet_store n
-  unfolding held_text
-  held_by f h = sym (ap (λ (f : FirstFault). text_by f levels_here) h)
-
-  -- refused: the refusal and nothing else
-  pub question_refused : (r : Refusal) → found ≡ standing.Refused r → (before after : List ℕ) (end : ℕ)
-      → Put (refusal_line r) 0 before after end → Put (held_text state tree_store sheet_store n) 0 before after end
+  -- refused by it
+  pub question_refused : (r : Refusal) → found ≡ Err r → ◌≡◌ {A = FirstFault} (Err r) question_fault
   unfolding standing_of
-  question_refused r q before after end = put_as (held_by (Found r) (standing_found _ _ r (sym e ∙ q)))
+  question_refused r q = sym (refused_found _ _ r (sym e ∙ q))
 
-  module _ (counts : Counts) (q : found ≡ standing.Ready counts) where
+  module _ (counts : Counts) (q : found ≡ Ok counts) where
     -- no rule has a fault, and the counts are the tree's own
-    own : (first_of (level_rules state tree_store sheet_store n n) ≡ Absent) × (counts ≡ counts_of tree_here)
+    own : (question_fault ≡ Ok tt) × (counts ≡ counts_of (held_tree state tree_bytes))
     unfolding standing_of
-    own = ready_absent _ _ counts (sym e ∙ q)
+    own = accepted_absent _ _ counts (sym e ∙ q)
+
+    pub question_answered : Ok tt ≡ question_fault
+    question_answered = sym own.0
 
     -- the pair is ready with them
-    pub held_ready : ReadyAt state tree_store sheet_store n
-    held_ready = sym e ∙ q ∙ ap standing.Ready own.1
+    pub held_ready : ReadyAt state tree_bytes sheet_bytes n
+    held_ready = sym e ∙ q ∙ ap Ok own.1
 
-    -- the header and the levels
-    pub levels_put : (before between after : List ℕ) (end last : ℕ)
-        → Put (header_line counts.number counts.events n) 0 before between end
-        → Put (lines_below tree_here (held_sheet state sheet_store) n (suc n)) end between after last
-        → Put (held_text state tree_store sheet_store n) 0 before after last
-    levels_put before between after end last header lines =
-        let named = ap (λ (c : Counts). header_line c.number c.events n) own.1 in
-        put_as (held_by Absent own.0) (put_then (omega arith) (put_as named header) lines)
+    -- with the header put, all lines are still to come
+    pub header_put : (draft : List ℕ) → draft ≡ header_line counts.number counts.events n
+        → draft ++ lines_below (held_tree state tree_bytes) (held_sheet state sheet_bytes) n (suc n)
+        ≡ levels_text (held_tree state tree_bytes) (held_sheet state sheet_bytes) n
+    header_put draft p =
+        let lines = lines_below (held_tree state tree_bytes) (held_sheet state sheet_bytes) n (suc n) in
+        ap (λ (xs : List ℕ). xs ++ lines) p
+        ∙ ap (λ (c : Counts). header_line c.number c.events n ++ lines) own.1
+
+-- What handing in an accepted file leaves, beside the rest of its store.
+record Taken (fault : FirstFault) (file : List ℕ) (after : State) (answer : Answer) (kept : List ℕ) : Type 0 where
+  none : fault ≡ Ok tt
+  state_is : answer.state ≡ after
+  rest : List ℕ
+  kept_is : kept ≡ file ++ rest
 
 -- A file handed in to a store that takes it, by its own fault and the states before and after.
 module _ (fault : FirstFault) (file store : List ℕ) (before after : State) (room : length file ≤ length store)
@@ -80,54 +73,38 @@ module _ (fault : FirstFault) (file store : List ℕ) (before after : State) (ro
   fault_own = go fault
     where
       go : (f : FirstFault) → hand_in_fault f file store ≡ f
-      go (Found r) = refl
-      go Absent = rw (le-leb (length file) (length store) room)
+      go (Err r) = refl
+      go (Ok tt) = rw (le-leb (length file) (length store) room)
 
   answer_is : answer ≡ answer_by fault before after
   unfolding handed_answer
   answer_is = e ∙ ap (λ (f : FirstFault). answer_by f before after) fault_own
 
-  -- a verdict of refusal is by the file's fault
-  fault_found : (f : FirstFault) (r : Refusal) → answer ≡ answer_by f before after → answer.verdict ≡ Refused r
-      → f ≡ Found r
-  fault_found (Found q) r a v = cc (ap (λ (a : Answer). a.verdict) a)
-  fault_found Absent r a v =
-      let clash : ◌≡◌ {A = ℕ} 0 1 = cc (ap (λ (a : Answer). a.verdict) a) in
-      absurd (omega arith)
+  -- the verdict is the file's fault
+  verdict_is : answer.verdict ≡ fault
+  verdict_is = ap (λ (a : Answer). a.verdict) answer_is ∙ go fault
+    where
+      go : (f : FirstFault) → (answer_by f before after).verdict ≡ f
+      go (Err r) = refl
+      go (Ok tt) = refl
 
-  -- one of acceptance by none
-  fault_absent : (f : FirstFault) → answer ≡ answer_by f before after → answer.verdict ≡ Accepted → f ≡ Absent
-  fault_absent Absent a v = refl
-  fault_absent (Found q) a v =
-      let clash : ◌≡◌ {A = ℕ} 0 1 = cc (ap (λ (a : Answer). a.verdict) a) in
-      absurd (omega arith)
-
-  -- refused: the refusal and nothing else
-  refused_put : (r : Refusal) → answer.verdict ≡ Refused r → (text draft left : List ℕ) (end : ℕ)
-      → Put (refusal_line r) 0 draft left end → Put (text_by fault text) 0 draft left end
-  refused_put r v text draft left end =
-      put_as (sym (ap (λ (f : FirstFault). text_by f text) (fault_found fault r answer_is v)))
-
-  -- accepted: the text of what is held then, where a file at the front of its store is as good as the file itself
-  held_put : (text : State → List ℕ → List ℕ) → ((rest : List ℕ) → text after (file ++ rest) ≡ text after file)
-      → (kept : List ℕ) → kept ≡ handed_store fault file store → answer.verdict ≡ Accepted
-      → (draft left : List ℕ) (end : ℕ) → Put (text answer.state kept) 0 draft left end
-      → Put (text_by fault (text after file)) 0 draft left end
+  -- one of acceptance leaves the file
+  taken : (kept : List ℕ) → kept ≡ handed_store fault file store → answer.verdict ≡ Ok tt
+      → Taken fault file after answer kept
   unfolding handed_store
-  held_put text front kept k v draft left end =
-      let none : fault ≡ Absent = fault_absent fault answer_is v in
-      let state_is : answer.state ≡ after =
-      ap (λ (a : Answer). a.state) (answer_is ∙ ap (λ (f : FirstFault). answer_by f before after) none) in
-      let kept_is : kept ≡ file ++ drop (length file) store =
-      k ∙ ap (λ (f : FirstFault). store_by f file store) (fault_own ∙ none) in
-      put_as (ap₂ text state_is kept_is
-      ∙ front (drop (length file) store)
-      ∙ sym (ap (λ (f : FirstFault). text_by f (text after file)) none))
+  taken kept k v =
+      let none : fault ≡ Ok tt = sym verdict_is ∙ v in
+      record {
+        none = none;
+        state_is = ap (λ (a : Answer). a.state) (answer_is ∙ ap (λ (f : FirstFault). answer_by f before after) none);
+        rest = drop (length file) store;
+        kept_is = k ∙ ap (λ (f : FirstFault). store_by f file store) (fault_own ∙ none);
+      }
 
 -- A file at the front of its store is what is held, and has changed where the file itself has a fault.
 module _ (file rest : List ℕ) where
-  front_held : take (length file) (file ++ rest) ≡ take (length file) file
-  front_held = take-append_seam file rest ∙ sym (take-length file)
+  front_held : take (length file) (file ++ rest) ≡ file
+  front_held = take-append_seam file rest
 
   front_changed : (place : ℕ) (fault : List ℕ → FirstFault)
       → changed place fault (length file) (file ++ rest) ≡ changed place fault (length file) file
@@ -135,91 +112,79 @@ module _ (file rest : List ℕ) where
   front_changed place fault =
       rw (
         front_held,
+        take-length file,
         le-leb (length file) (length (file ++ rest)) (omega (arith, length-append file rest)),
         le-leb (length file) (length file) (omega arith),
       )
 
--- Handing in a sheet, with a store that takes it.
-module _ (state : State) (held_bytes sheet : List ℕ) (n : ℕ) (l : length sheet ≤ most_sheet) (answer : Answer)
-    (e : answer ≡ sheet_answer state sheet (replicate most_sheet 0)) where
-  -- refused
-  pub sheet_refused : (r : Refusal) → answer.verdict ≡ Refused r → (before after : List ℕ) (end : ℕ)
-      → Put (refusal_line r) 0 before after end → Put (sheet_text state held_bytes sheet n) 0 before after end
-  unfolding sheet_text
-  sheet_refused r v =
-      refused_put (sheet_fault sheet) sheet (replicate most_sheet 0) state (holding_sheet (length sheet) state)
-      (rw length-replicate l) answer e r v (held_text (holding_sheet (length sheet) state) held_bytes sheet n)
-
-  -- the text of a sheet at the front of its store
-  sheet_front : (rest : List ℕ) → held_text (holding_sheet (length sheet) state) held_bytes (sheet ++ rest) n
-      ≡ held_text (holding_sheet (length sheet) state) held_bytes sheet n
-  unfolding held_text
-  sheet_front rest =
-      let held = holding_sheet (length sheet) state in
-      let tree = held_tree held held_bytes in
-      ap₂ (λ (bytes : List ℕ) (f : FirstFault).
-      text_by (first_of (level_fault n n ∷ no_tree held ∷ no_sheet held ∷ tree_changed held held_bytes ∷ f
-      ∷ other_tree tree bytes ∷ [])) (levels_text tree bytes n))
-      (front_held sheet rest) (front_changed sheet rest 1 sheet_fault)
-
-  -- accepted
-  pub sheet_held : (store : List ℕ) → store ≡ sheet_store sheet (replicate most_sheet 0) → answer.verdict ≡ Accepted
-      → (before after : List ℕ) (end : ℕ) → Put (held_text answer.state held_bytes store n) 0 before after end
-      → Put (sheet_text state held_bytes sheet n) 0 before after end
-  unfolding sheet_text
-  sheet_held =
-      held_put (sheet_fault sheet) sheet (replicate most_sheet 0) state (holding_sheet (length sheet) state)
-      (rw length-replicate l) answer e (λ s store. held_text s held_bytes store n) sheet_front
-
--- The text by one fault and then by another is the text by the first of the two.
-text_nested : (f g : FirstFault) (text : List ℕ) → text_by f (text_by g text) ≡ text_by (f or_else g) text
-text_nested (Found r) g text = refl
-text_nested Absent g text = refl
+-- the question of two files at the front of their stores is that of the files
+rules_front : (tree sheet tree_rest sheet_rest : List ℕ) (n : ℕ)
+    → first_of (level_rules (holding tree sheet) (tree ++ tree_rest) (sheet ++ sheet_rest) n n)
+    ≡ first_of (level_rules (holding tree sheet) tree sheet n n)
+rules_front tree sheet tree_rest sheet_rest n =
+    let held = holding tree sheet in
+    ap₂ (λ (t s : FirstFault). first_of (level_fault n n ∷ no_tree held ∷ no_sheet held ∷ t ∷ s
+    ∷ other_tree (take (length tree) (tree ++ tree_rest)) (take (length sheet) (sheet ++ sheet_rest)) ∷ []))
+    (front_changed tree tree_rest 0 tree_fault) (front_changed sheet sheet_rest 1 sheet_fault)
+    ∙ ap₂ (λ (t s : List ℕ). first_of (level_fault n n ∷ no_tree held ∷ no_sheet held
+    ∷ changed 0 tree_fault (length tree) tree ∷ changed 1 sheet_fault (length sheet) sheet ∷ other_tree t s ∷ []))
+    (front_held tree tree_rest ∙ sym (take-length tree)) (front_held sheet sheet_rest ∙ sym (take-length sheet))
 
 -- Handing in a tree, with a store that takes it and nothing held.
-module _ (tree sheet : List ℕ) (n : ℕ) (l : length tree ≤ most_tree) (answer : Answer)
-    (e : answer ≡ tree_answer nothing_held tree (replicate most_tree 0)) where
-  -- the state that holds the tree
-  abbrev tree_held_state : State
-  tree_held_state = holding_tree (length tree) nothing_held
-
-  -- the whole is the tree's refusal, or the text for the sheet
-  whole_is : text_by (tree_fault tree) (sheet_text tree_held_state tree sheet n) ≡ text_of tree sheet n
-  unfolding text_of sheet_text held_text
-  whole_is =
-      let rules = first_of (level_rules (holding_sheet (length sheet) tree_held_state) tree sheet n n) in
-      let levels = levels_text (take (length tree) tree) (take (length sheet) sheet) n in
-      ap (text_by (tree_fault tree)) (text_nested (sheet_fault sheet) rules levels)
-      ∙ text_nested (tree_fault tree) (sheet_fault sheet or_else rules) levels
-      ∙ ap₂ (λ (t s : List ℕ). text_by (tree_fault tree or_else sheet_fault sheet or_else rules) (levels_text t s n))
-      (take-length tree) (take-length sheet)
-
+module _ (tree sheet : List ℕ) (n : ℕ) (l : length tree ≤ most_tree) (with_tree : Answer)
+    (e : with_tree ≡ tree_answer nothing_held tree (replicate most_tree 0)) where
   -- refused
-  pub tree_refused : (r : Refusal) → answer.verdict ≡ Refused r → (before after : List ℕ) (end : ℕ)
-      → Put (refusal_line r) 0 before after end → Put (text_of tree sheet n) 0 before after end
-  tree_refused r v before after end put =
-      put_as whole_is
-      (refused_put (tree_fault tree) tree (replicate most_tree 0) nothing_held tree_held_state
-      (rw length-replicate l) answer e r v (sheet_text tree_held_state tree sheet n) before after end put)
+  pub tree_refused : (r : Refusal) → with_tree.verdict ≡ Err r → Err r ≡ first_refusal tree sheet n
+  tree_refused r v =
+      let verdict = verdict_is (tree_fault tree) tree (replicate most_tree 0) nothing_held
+      (holding_tree (length tree) nothing_held) (rw length-replicate l) with_tree e in
+      ap (λ (f : FirstFault). first_of (f ∷ sheet_fault sheet ∷ level_rules (holding tree sheet) tree sheet n n))
+      (sym v ∙ verdict)
 
-  -- the text of a tree at the front of its store
-  tree_front : (rest : List ℕ)
-      → sheet_text tree_held_state (tree ++ rest) sheet n ≡ sheet_text tree_held_state tree sheet n
-  unfolding sheet_text held_text
-  tree_front rest =
-      let held = holding_sheet (length sheet) tree_held_state in
-      let bytes = held_sheet held sheet in
-      ap₂ (λ (named : List ℕ) (f : FirstFault).
-      text_by (sheet_fault sheet) (text_by (first_of (level_fault n n ∷ no_tree held ∷ no_sheet held ∷ f
-      ∷ sheet_changed held sheet ∷ other_tree named bytes ∷ [])) (levels_text named bytes n)))
-      (front_held tree rest) (front_changed tree rest 0 tree_fault)
+  -- accepted, and then the sheet with a store that takes it
+  module _ (v : with_tree.verdict ≡ Ok tt) (tree_bytes : List ℕ)
+      (kept : tree_bytes ≡ tree_store tree (replicate most_tree 0)) (m : length sheet ≤ most_sheet) (with_both : Answer)
+      (f : with_both ≡ sheet_answer with_tree.state sheet (replicate most_sheet 0)) where
+    tree_taken : Taken (tree_fault tree) tree (holding_tree (length tree) nothing_held) with_tree tree_bytes
+    tree_taken =
+        taken (tree_fault tree) tree (replicate most_tree 0) nothing_held (holding_tree (length tree) nothing_held)
+        (rw length-replicate l) with_tree e tree_bytes kept v
 
-  -- accepted
-  pub tree_held : (store : List ℕ) → store ≡ tree_store tree (replicate most_tree 0) → answer.verdict ≡ Accepted
-      → (before after : List ℕ) (end : ℕ) → Put (sheet_text answer.state store sheet n) 0 before after end
-      → Put (text_of tree sheet n) 0 before after end
-  tree_held store k v before after end put =
-      put_as whole_is
-      (held_put (tree_fault tree) tree (replicate most_tree 0) nothing_held tree_held_state
-      (rw length-replicate l) answer e (λ s store. sheet_text s store sheet n) tree_front
-      store k v before after end put)
+    -- refused
+    pub sheet_refused : (r : Refusal) → with_both.verdict ≡ Err r → Err r ≡ first_refusal tree sheet n
+    sheet_refused r w =
+        let verdict = verdict_is (sheet_fault sheet) sheet (replicate most_sheet 0) with_tree.state
+        (holding_sheet (length sheet) with_tree.state) (rw length-replicate m) with_both f in
+        sym (ap₂ (λ (t s : FirstFault). first_of (t ∷ s ∷ level_rules (holding tree sheet) tree sheet n n))
+        tree_taken.none (sym verdict ∙ w))
+
+    -- accepted: both are held
+    module _ (w : with_both.verdict ≡ Ok tt) (sheet_bytes : List ℕ)
+        (stored : sheet_bytes ≡ sheet_store sheet (replicate most_sheet 0)) where
+      sheet_taken : Taken (sheet_fault sheet) sheet (holding_sheet (length sheet) with_tree.state) with_both sheet_bytes
+      sheet_taken =
+          taken (sheet_fault sheet) sheet (replicate most_sheet 0) with_tree.state
+          (holding_sheet (length sheet) with_tree.state) (rw length-replicate m) with_both f sheet_bytes stored w
+
+      -- the state holds them
+      state_both : with_both.state ≡ holding tree sheet
+      state_both = sheet_taken.state_is ∙ ap (holding_sheet (length sheet)) tree_taken.state_is
+
+      -- the first fault of the question is the first refusal
+      pub rules_both : first_of (level_rules with_both.state tree_bytes sheet_bytes n n) ≡ first_refusal tree sheet n
+      rules_both =
+          ap (λ (s : State). first_of (level_rules s tree_bytes sheet_bytes n n)) state_both
+          ∙ ap₂ (λ (t s : List ℕ). first_of (level_rules (holding tree sheet) t s n n)) tree_taken.kept_is
+          sheet_taken.kept_is
+          ∙ rules_front tree sheet tree_taken.rest sheet_taken.rest n
+          ∙ sym (ap₂ (λ (t s : FirstFault). first_of (t ∷ s ∷ level_rules (holding tree sheet) tree sheet n n))
+          tree_taken.none sheet_taken.none)
+
+      -- and their text is the files'
+      pub text_both : levels_text (held_tree with_both.state tree_bytes) (held_sheet with_both.state sheet_bytes) n
+          ≡ levels_text tree sheet n
+      text_both =
+          ap (λ (s : State). levels_text (held_tree s tree_bytes) (held_sheet s sheet_bytes) n) state_both
+          ∙ ap₂ (λ (t s : List ℕ). levels_text (take (length tree) t) (take (length sheet) s) n) tree_taken.kept_is
+          sheet_taken.kept_is
+          ∙ ap₂ (λ (t s : List ℕ). levels_text t s n) (front_held tree tree_taken.rest) (front_held sheet sheet_taken.rest)

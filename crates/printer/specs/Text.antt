@@ -1,9 +1,7 @@
 -- The whole printed text, by the bytes of the input: document 01's "The level printer reads standard input".
-use Rattle.std.specs.Prelude.{ℕ, zero, suc, ◌+◌, ◌*◌, cond, List, [], ◌∷◌, ◌++◌, length}
+use Rattle.std.specs.Prelude.{ℕ, zero, suc, ◌+◌, ◌*◌, cond, List, [], ◌∷◌, ◌++◌, length, Ok, Err}
 use Rattle.theory.specs.Unit.{billion}
-use Rattle.refusals.specs.FirstFault.{first_of}
-use Rattle.refusals.specs.declared.refusal.FirstFault.{FirstFault}
-use Rattle.refusals.specs.declared.refusal.FirstFault.TheVariants.{Found, Absent}
+use Rattle.refusals.specs.FirstFault.{FirstFault, first_of}
 use Rattle.tree_file.specs.Format.{tree_number}
 use Rattle.tree_file.specs.Tallies.{event_count}
 use Rattle.tree_file.specs.Judged.{fault_of as tree_fault}
@@ -36,8 +34,8 @@ first_refusal tree sheet n =
 
 -- The refusal and nothing else, or the text where there is none.
 abbrev pub text_by : FirstFault → List ℕ → List ℕ
-text_by (Found r) text = refusal_line r
-text_by Absent text = text
+text_by (Err r) text = refusal_line r
+text_by (Ok tt) text = text
 
 -- What is printed for a tree, a sheet and n.
 unfoldable pub text_of : List ℕ → List ℕ → ℕ → List ℕ

@@ -1,85 +1,58 @@
-// The lines of all levels of a pair that is held.
-ghost use Rattle.std.specs.Prelude.{◌≡◌, suc, ◌+◌, ◌*◌, ◌≤◌, length};
+// The header and the lines of all levels of a pair that is held.
+ghost use Rattle.std.specs.Prelude.{◌≡◌, ◌≤◌, OnOk};
 ghost use Rattle.theory.specs.Unit.{billion};
-ghost use Rattle.monitor.specs.Standing.{held_tree, held_sheet};
+ghost use Rattle.refusals.specs.FirstFault.{first_of};
+ghost use Rattle.monitor.specs.Standing.{held_tree, held_sheet, level_rules};
 ghost use Rattle.monitor.specs.Question.{report_of};
-ghost use Rattle.printer.specs.Line.{level_line, most_line};
-ghost use Rattle.printer.specs.Text.{lines_below, most_levels};
-ghost use Rattle.printer.specs.Held.{ReadyAt, outcome_at};
-ghost use Rattle.printer.specs.Put.{Put};
+ghost use Rattle.printer.specs.Text.{levels_text};
+ghost use Rattle.printer.specs.Held.{ReadyAt};
 
-use crate::line::put_level;
-use monitor::question::{Outcome, question};
+use crate::draft::Draft;
+use evaluation::slices::WorkSlices;
+use monitor::judge::judge;
+use monitor::question::{Report, question};
 use monitor::state::State;
+use refusals::refusal::Refusal;
+use tree_file::format::MAX_NODES;
 
-// The most nodes of a tree.
-const MOST_NODES: usize = 1024;
-
-// What the monitor answers at level k of n, with a work slice for any tree.
-fn outcome_at(state: State, tree_store: &[u8], sheet_store: &[u8], k: u32, n: u32) -> Outcome
-    ensures { result ≡ outcome_at state tree_store.now sheet_store.now k n }
-{
-    let mut lower = [0u32; MOST_NODES];
-    let mut upper = [0u32; MOST_NODES];
-    let mut marks = [0u8; MOST_NODES];
-    let reply = question(
-        state,
-        tree_store,
-        sheet_store,
-        k,
-        n,
-        &mut lower,
-        &mut upper,
-        &mut marks,
-    );
-    reply.outcome
-}
-
-// Puts the line of level k of a pair that is ready at level n: it is ready at every level below, too.
-fn put_level_at(
-    state: State,
-    tree_store: &[u8],
-    sheet_store: &[u8],
-    k: u32,
-    n: u32,
-    draft: &mut [u8],
-    place: usize,
-) -> usize
+// What the monitor reports at level k of a pair that is ready at level n, and so at every level below. The state, the
+// stores, k and n stand apart, as in the monitor's calls.
+#[tactic(auto, using(crate::proofs::Answers::answered))]
+fn report_at(state: State, tree_store: &[u8], sheet_store: &[u8], k: u32, n: u32) -> Report
     requires ready_at { ReadyAt state tree_store.now sheet_store.now n }
     requires k_le_n { k ≤ n }
-    requires most_line_in_bounds { place + most_line ≤ length draft.old }
-    ensures put { Put (level_line k (report_of billion (held_tree state tree_store.now)
-        (held_sheet state sheet_store.now) k n).ends)
-        place draft.old draft.new result }
-    ensures upper_bound { result ≤ place + most_line }
+    ensures { result ≡ report_of billion (held_tree state tree_store.now)
+        (held_sheet state sheet_store.now) k n }
 {
-    let outcome = outcome_at(state, tree_store, sheet_store, k, n);
-    let Outcome::Answered(report) = outcome else {
-        return place;
+    let mut lower = [0u32; MAX_NODES];
+    let mut upper = [0u32; MAX_NODES];
+    let mut marks = [0u8; MAX_NODES];
+    let mut slices = WorkSlices {
+        lower: &mut lower,
+        upper: &mut upper,
+        marks: &mut marks,
     };
-    put_level(k, report.ends, draft, place)
+    let reply = question(state, tree_store, sheet_store, k, n, &mut slices);
+    reply.outcome.unwrap()
 }
 
-// Puts a line for each level, from n down to 0.
+// Makes the text the header and a line for each level, from n down to 0, or answers why the pair cannot be asked.
 pub fn put_levels(
     state: State,
     tree_store: &[u8],
     sheet_store: &[u8],
     n: u32,
-    draft: &mut [u8],
-    place: usize,
-) -> usize
-    requires ready_at { ReadyAt state tree_store.now sheet_store.now n }
-    requires most_levels_in_bounds { place + most_line * most_levels ≤ length draft.old }
-    ensures { Put (lines_below (held_tree state tree_store.now)
-        (held_sheet state sheet_store.now) n (suc n))
-        place draft.old draft.new result }
+    draft: &mut Draft,
+) -> Result<(), Refusal>
+    ensures refusal { result ≡ first_of (level_rules state tree_store.now sheet_store.now n n) }
+    ensures text { OnOk result (draft.new ≡ levels_text (held_tree state tree_store.now)
+        (held_sheet state sheet_store.now) n) }
 {
-    let mut end = place;
-    let mut left = n + 1;
-    while left > 0 {
-        left -= 1;
-        end = put_level_at(state, tree_store, sheet_store, left, n, draft, end);
+    let counts = judge(state, tree_store, sheet_store, n, n)?;
+    draft.put_header(counts.number, counts.events, n);
+    for k in (0..=n).rev() {
+        let report = report_at(state, tree_store, sheet_store, k, n);
+        draft.put_level(k, report.ends);
     }
-    end
+    Ok(())
 }

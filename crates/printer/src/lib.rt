@@ -1,8 +1,7 @@
 // The level printer: the whole printed text for an input, in a lent buffer.
 #![tactic(auto)]
 
-mod decimal;
-mod field;
+mod draft;
 mod input;
 mod levels;
 mod line;

@@ -1,1 +1,5 @@
+pub mod Checksum
 pub mod Front
+pub mod NoAnswer
+pub mod Pair
+pub mod Shown

@@ -1,18 +1,18 @@
-// A checksum of a store or a slice: its places as the digits of a number in base 257, modulo a prime below 2^32.
+// A checksum of numbers: they are the digits of a number in base 257, modulo a prime.
+ghost use Rattle.std.specs.Prelude.{◌≡◌};
+ghost use Rattle.std.specs.List.{AllZip};
+ghost use Rattle.program_text.specs.Checksum.{sum_of};
 
-// The sum after one more place.
-pub fn with_place(sum: u64, place: u64) -> u64 {
-    (sum % 4294967291 * 257 + place % 4294967291) % 4294967291
-}
+// The greatest prime below 2^32.
+pub const PRIME: u64 = 4294967291;
 
-pub fn of_byte(byte: u8) -> u64 {
-    byte as u64
-}
-
-pub fn bytes_sum(bytes: &[u8]) -> u64 {
+pub fn checksum<T: Copy + Into<u64>>(places: &[T]) -> u64
+    ensures { (numbers : _) × AllZip T.converts places.now numbers × (result ≡ sum_of numbers) }
+{
     let mut sum = 0;
-    for byte in bytes {
-        sum = with_place(sum, of_byte(*byte));
+    for place in places {
+        let number: u64 = (*place).into();
+        sum = (sum * 257 + number % PRIME) % PRIME;
     }
     sum
 }

@@ -1,9 +1,9 @@
-// What the programs share: the front of a slice, a part of standard input, the lines that are no answer, and stores as
+// What the programs share: standard input read part by part, a held pair, why there is no answer, and the stores as
 // they are printed.
 #![tactic(auto)]
 
 pub mod checksum;
-pub mod front;
-pub mod lines;
+pub mod held;
+pub mod no_answer;
 pub mod read;
-pub mod store;
+pub mod shown;

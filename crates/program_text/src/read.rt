@@ -1,13 +1,14 @@
 // Reading standard input part by part.
+ghost use Rattle.std.specs.Prelude.{◌≡◌, IfOk, length};
 ghost use Rattle.program_text.specs.Front.{IsPrefixLen};
 
-use crate::front::front;
+use crate::held::{Held, MOST_SHEET, MOST_TREE};
+use refusals::refusal::Refusal;
 use std::io::Read;
 
-// The most bytes of a tree file and of an opinion sheet that can be accepted.
-pub const MOST_TREE: usize = 7175;
-
-pub const MOST_SHEET: usize = 17434;
+// The input is not as long as it says.
+#[derive(Clone, Copy)]
+pub struct WrongInput;
 
 // Reads until `part` is full, the input ends or a read fails; how many bytes it put at the front of `part`.
 pub fn read_full(rt: &impl Input, part: &mut [u8]) -> usize
@@ -25,9 +26,48 @@ pub fn read_full(rt: &impl Input, part: &mut [u8]) -> usize
     done
 }
 
-// Reads a part of that length to the front of `part`; whether all of it came.
-pub fn read_part(rt: &impl Input, length: usize, part: &mut [u8]) -> bool {
-    let room = front(length, part);
-    let got = read_full(rt, &mut part[..room]);
-    got == length
+// Reads a part to its end.
+fn read_part(rt: &impl Input, part: &mut [u8]) -> Result<(), WrongInput> {
+    rt.reader().read_exact(part).map_err(|_| WrongInput)
+}
+
+// Reads a head of N bytes.
+pub fn read_head<const N: usize>(rt: &impl Input) -> Result<[u8; N], WrongInput> {
+    let mut head = [0; N];
+    read_part(rt, &mut head)?;
+    Ok(head)
+}
+
+// Reads a file of that many bytes to the front of the room.
+pub fn read_file<'a>(
+    rt: &impl Input,
+    bytes: usize,
+    room: &'a mut [u8],
+) -> Result<&'a [u8], WrongInput>
+    ensures { IfOk result (λ file. length file.now ≡ bytes) }
+{
+    let file = room.get_mut(..bytes).ok_or(WrongInput)?;
+    read_part(rt, file)?;
+    Ok(file)
+}
+
+// Finds the input at its end.
+pub fn read_end(rt: &impl Input) -> Result<(), WrongInput> {
+    if read_full(rt, &mut [0]) > 0 {
+        return Err(WrongInput);
+    }
+    Ok(())
+}
+
+// Reads a tree file and an opinion sheet, and hands both in. A refusal stands apart, since what follows may be wrong too.
+pub fn read_pair(
+    rt: &impl Input,
+    tree_len: usize,
+    sheet_len: usize,
+) -> Result<Result<Held, Refusal>, WrongInput> {
+    let mut tree = [0; MOST_TREE];
+    let mut sheet = [0; MOST_SHEET];
+    let tree = read_file(rt, tree_len, &mut tree)?;
+    let sheet = read_file(rt, sheet_len, &mut sheet)?;
+    Ok(Held::pair(tree, sheet))
 }

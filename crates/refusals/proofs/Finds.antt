@@ -10,8 +10,8 @@ use Rattle.refusals.specs.FirstFault.{unless, ◌or_else◌, first_among}
 use Rattle.refusals.specs.Order.{refusal, Earlier, Finds}
 use Rattle.refusals.specs.declared.rule.Rule.{Rule}
 use Rattle.refusals.specs.declared.refusal.Refusal.{Refusal}
-use Rattle.refusals.specs.declared.refusal.FirstFault.{FirstFault}
-use Rattle.refusals.specs.declared.refusal.FirstFault.TheVariants.{Found, Absent}
+use Rattle.refusals.specs.FirstFault.{FirstFault}
+use Rattle.std.specs.Prelude.{Ok, Err}
 use Rattle.refusals.proofs.FirstFault.{unless_holds, among_none, among_next}
 
 -- A rule broken at a place.
@@ -21,9 +21,9 @@ Case Broken rule place q = Broken × (q ≡ refusal rule place)
 -- The same refusals, said in another way.
 pub finds_same : {P Q : Refusal → Type 0} (f : FirstFault) → ((q : Refusal) → P q → Q q)
     → ((q : Refusal) → Q q → P q) → Finds P f → Finds Q f
-finds_same (Found r) to from h =
+finds_same (Err r) to from h =
     record { broken = to r h.broken; no_earlier = λ q b. h.no_earlier q (from q b) }
-finds_same Absent to from h = λ q b. h q (from q b)
+finds_same (Ok tt) to from h = λ q b. h q (from q b)
 
 -- A rule that is broken exactly where a test fails.
 pub finds_unless : (holds : Bool) (rule : Rule) (place : ℕ) (Broken : Type 0) → (holds ≡ false → Broken)
@@ -33,19 +33,19 @@ finds_unless false rule place Broken says shows =
     record { broken = (says refl, refl); no_earlier = λ q b. inl b.1 }
 
 -- One part before another, which is judged where the first has no fault.
-pub finds_either : {P Q : Refusal → Type 0} (f g : FirstFault) → Finds P f → (f ≡ Absent → Finds Q g)
+pub finds_either : {P Q : Refusal → Type 0} (f g : FirstFault) → Finds P f → (f ≡ Ok tt → Finds Q g)
     → ((r q : Refusal) → P r → Q q → Earlier r q) → Finds (λ q. P q ⊎ Q q) (f or_else g)
-finds_either (Found r) g h k order = record {
+finds_either (Err r) g h k order = record {
   broken = inl h.broken;
   no_earlier = λ q b. ⊎_elim (h.no_earlier q) (λ c. inr (order r q h.broken c)) b;
 }
-finds_either Absent g h k order =
+finds_either (Ok tt) g h k order =
     finds_same g (λ q b. inr b) (λ q b. ⊎_elim (λ p. absurd (h q p)) (λ c. c) b) (k refl)
 
 -- The last part.
-pub finds_last : (P : Refusal → Type 0) (f : FirstFault) → Finds P f → Finds P (f or_else Absent)
-finds_last P (Found r) h = h
-finds_last P Absent h = h
+pub finds_last : (P : Refusal → Type 0) (f : FirstFault) → Finds P f → Finds P (f or_else Ok tt)
+finds_last P (Err r) h = h
+finds_last P (Ok tt) h = h
 
 -- One rule before what follows it.
 pub finds_rule : (holds : Bool) (rule : Rule) (place : ℕ) (Broken : Type 0) → (holds ≡ false → Broken)

@@ -13,8 +13,8 @@ use Rattle.refusals.specs.Order.{refusal, stage, order_place, Earlier, by_stage,
 use Rattle.refusals.specs.Order.{First, Finds}
 use Rattle.refusals.specs.declared.rule.Rule.{Rule}
 use Rattle.refusals.specs.declared.refusal.Refusal.{Refusal}
-use Rattle.refusals.specs.declared.refusal.FirstFault.{FirstFault}
-use Rattle.refusals.specs.declared.refusal.FirstFault.TheVariants.{Found, Absent}
+use Rattle.refusals.specs.FirstFault.{FirstFault}
+use Rattle.std.specs.Prelude.{Ok, Err}
 use Rattle.refusals.proofs.FirstFault.{found_not_absent, among_next, among_none}
 
 -- No refusal comes before itself.
@@ -69,11 +69,11 @@ first_unique {Broken} {r} {q} a b = go (a.no_earlier q b.broken) (b.no_earlier r
 
 -- A fault, where there is one, is q or comes before it.
 abbrev pub UpTo : Refusal → FirstFault → Type 0
-UpTo q f = (r : Refusal) → f ≡ Found r → (q ≡ r) ⊎ Earlier r q
+UpTo q f = (r : Refusal) → f ≡ Err r → (q ≡ r) ⊎ Earlier r q
 
 -- There is a fault, and it is q or comes before it.
 pub record Stops (q : Refusal) (f : FirstFault) : Type 0 where
-  pub there : f ≡ Absent → ⊥
+  pub there : f ≡ Ok tt → ⊥
   pub up_to : UpTo q f
 
 module _ (q : Refusal) where
@@ -86,13 +86,13 @@ module _ (q : Refusal) where
       inr (subst (λ (x : Refusal). Earlier x q) same h)
 
   -- no rule
-  pub up_to_absent : UpTo q Absent
+  pub up_to_absent : UpTo q (Ok tt)
   up_to_absent r e = found_not_absent (sym e)
 
   -- two
   pub up_to_either : (f g : FirstFault) → UpTo q f → UpTo q g → UpTo q (f or_else g)
-  up_to_either (Found x) g h k = h
-  up_to_either Absent g h k = k
+  up_to_either (Err x) g h k = h
+  up_to_either (Ok tt) g h k = k
 
   -- a row
   pub up_to_among : (fault : ℕ → FirstFault) (n : ℕ) → ((i : ℕ) → i < n → UpTo q (fault i))
@@ -109,13 +109,13 @@ module _ (q : Refusal) where
 
   -- of two, the first stops
   pub stops_first : (f g : FirstFault) → Stops q f → Stops q (f or_else g)
-  stops_first (Found x) g h = h
-  stops_first Absent g h = absurd (h.there refl)
+  stops_first (Err x) g h = h
+  stops_first (Ok tt) g h = absurd (h.there refl)
 
   -- of two, the second stops where the first has no fault
-  pub stops_past : (f g : FirstFault) → UpTo q f → (f ≡ Absent → Stops q g) → Stops q (f or_else g)
-  stops_past (Found x) g h k = record { there = λ a. found_not_absent a; up_to = h }
-  stops_past Absent g h k = k refl
+  pub stops_past : (f g : FirstFault) → UpTo q f → (f ≡ Ok tt → Stops q g) → Stops q (f or_else g)
+  stops_past (Err x) g h k = record { there = λ a. found_not_absent a; up_to = h }
+  stops_past (Ok tt) g h k = k refl
 
   -- a rule of an earlier stage and what follows it
   pub stops_past_stage : (b : Bool) (rule : Rule) (place : ℕ) (g : FirstFault) → stage (refusal rule place) < stage q
@@ -144,15 +144,15 @@ stops_rule b rule place g e =
     stops_first (refusal rule place) (unless b rule place) g (stops_here (refusal rule place) b e)
 
 -- A fault is found as it must be, where it is a broken rule and every broken rule stops the judging.
-pub finds : (Broken : Refusal → Type 0) (f : FirstFault) → ((r : Refusal) → f ≡ Found r → Broken r)
+pub finds : (Broken : Refusal → Type 0) (f : FirstFault) → ((r : Refusal) → f ≡ Err r → Broken r)
     → ((q : Refusal) → Broken q → Stops q f) → Finds Broken f
-finds Broken (Found r) sound stops =
+finds Broken (Err r) sound stops =
     record { broken = sound r refl; no_earlier = λ q b. (stops q b).up_to r refl }
-finds Broken Absent sound stops = λ q b. (stops q b).there refl
+finds Broken (Ok tt) sound stops = λ q b. (stops q b).there refl
 
 -- Where a fault comes from: of a rule,
 pub unless_found : (P : Refusal → Type 0) (b : Bool) (rule : Rule) (place : ℕ) (r : Refusal)
-    → unless b rule place ≡ Found r → (b ≡ false → P (refusal rule place)) → P r
+    → unless b rule place ≡ Err r → (b ≡ false → P (refusal rule place)) → P r
 unless_found P true rule place r e broken = found_not_absent (sym e)
 unless_found P false rule place r e broken =
     let same : refusal rule place ≡ r = cc in
@@ -160,32 +160,32 @@ unless_found P false rule place r e broken =
 
 -- of a rule and what follows it,
 pub rule_found : (P : Refusal → Type 0) (b : Bool) (rule : Rule) (place : ℕ) (rest : FirstFault) (r : Refusal)
-    → unless b rule place or_else rest ≡ Found r → (b ≡ false → P (refusal rule place))
-    → (b ≡ true → rest ≡ Found r → P r) → P r
+    → unless b rule place or_else rest ≡ Err r → (b ≡ false → P (refusal rule place))
+    → (b ≡ true → rest ≡ Err r → P r) → P r
 rule_found P true rule place rest r e broken kept = kept refl e
 rule_found P false rule place rest r e broken kept =
     let same : refusal rule place ≡ r = cc in
     subst P same (broken refl)
 
 -- of two,
-pub either_found : (f g : FirstFault) (r : Refusal) → f or_else g ≡ Found r
-    → (f ≡ Found r) ⊎ (f ≡ Absent) × (g ≡ Found r)
-either_found (Found x) g r e = inl e
-either_found Absent g r e = inr (refl, e)
+pub either_found : (f g : FirstFault) (r : Refusal) → f or_else g ≡ Err r
+    → (f ≡ Err r) ⊎ (f ≡ Ok tt) × (g ≡ Err r)
+either_found (Err x) g r e = inl e
+either_found (Ok tt) g r e = inr (refl, e)
 
 -- of a row.
 pub record FoundAt (fault : ℕ → FirstFault) (n : ℕ) (r : Refusal) : Type 0 where
   pub index : ℕ
   pub inside : index < n
-  pub found : fault index ≡ Found r
+  pub found : fault index ≡ Err r
 
-pub among_found_at : (fault : ℕ → FirstFault) (n : ℕ) (r : Refusal) → first_among fault n ≡ Found r → FoundAt fault n r
+pub among_found_at : (fault : ℕ → FirstFault) (n : ℕ) (r : Refusal) → first_among fault n ≡ Err r → FoundAt fault n r
 among_found_at fault zero r e = found_not_absent (sym e ∙ among_none fault)
 among_found_at fault (suc n) r e =
     go (among_found_at fault n r) (either_found (first_among fault n) (fault n) r (sym (among_next fault n) ∙ e))
   where
-    go : (first_among fault n ≡ Found r → FoundAt fault n r)
-        → (first_among fault n ≡ Found r) ⊎ (first_among fault n ≡ Absent) × (fault n ≡ Found r)
+    go : (first_among fault n ≡ Err r → FoundAt fault n r)
+        → (first_among fault n ≡ Err r) ⊎ (first_among fault n ≡ Ok tt) × (fault n ≡ Err r)
         → FoundAt fault (suc n) r
     go before (inl a) =
         let b = before a in

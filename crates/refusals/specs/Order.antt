@@ -6,8 +6,8 @@ use Rattle.std.specs.Prelude.{ℕ, ◌+◌, ◌<◌, ◌≡◌, ◌⊎◌, cond,
 use Rattle.refusals.specs.Number.{number_of}
 use Rattle.refusals.specs.declared.rule.Rule.{Rule}
 use Rattle.refusals.specs.declared.refusal.Refusal.{Refusal}
-use Rattle.refusals.specs.declared.refusal.FirstFault.{FirstFault}
-use Rattle.refusals.specs.declared.refusal.FirstFault.TheVariants.{Found, Absent}
+use Rattle.refusals.specs.FirstFault.{FirstFault}
+use Rattle.std.specs.Prelude.{Ok, Err}
 
 -- A rule broken at a place.
 abbrev pub refusal : Rule → ℕ → Refusal
@@ -46,5 +46,5 @@ pub record First (Broken : Refusal → Type 0) (r : Refusal) : Type 0 where
 
 -- What judging must find where these rules are broken: the first of them, and nothing where none is.
 abbrev pub Finds : (Refusal → Type 0) → FirstFault → Type 0
-Finds Broken (Found r) = First Broken r
-Finds Broken Absent = (q : Refusal) → Broken q → ⊥
+Finds Broken (Err r) = First Broken r
+Finds Broken (Ok tt) = (q : Refusal) → Broken q → ⊥

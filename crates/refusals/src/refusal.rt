@@ -1,4 +1,4 @@
-// A refusal, and what judging finds.
+// A refusal: what a call answers that cannot go on.
 use crate::rule::Rule;
 
 // The rule that is broken, and the place that document 01 gives it, 0 where it names none.
@@ -6,11 +6,4 @@ use crate::rule::Rule;
 pub struct Refusal {
     pub rule: Rule,
     pub place: usize,
-}
-
-// The first fault of what was judged, or none.
-#[derive(Clone, Copy)]
-pub enum FirstFault {
-    Found(Refusal),
-    Absent,
 }

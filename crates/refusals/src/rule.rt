@@ -1,91 +1,77 @@
 // The rules that a call can be refused by, each with its number in document 01, and from 26 on in document 02.
 ghost use Rattle.std.specs.Prelude.{◌≡◌};
 ghost use Rattle.refusals.specs.Number.{number_of};
+ghost use Rattle.refusals.specs.Order.{refusal};
 
-// What is not as it must be: first what can be wrong with an input, then with the state.
+use crate::refusal::Refusal;
+
+// What is not as it must be, with its number: first what can be wrong with an input, then with the state.
 #[derive(Clone, Copy)]
 pub enum Rule {
     // The file ends before its header does.
-    TooShort,
+    TooShort = 1,
     // The first three bytes are not the format's letters.
-    WrongLetters,
+    WrongLetters = 2,
     // The version is none that is read.
-    WrongVersion,
+    WrongVersion = 3,
     // The number of nodes, events or experts is out of range.
-    WrongCount,
+    WrongCount = 4,
     // The file is not as long as its counts require.
-    WrongLength,
+    WrongLength = 5,
     // A record or an entry of unknown kind.
-    UnknownKind,
+    UnknownKind = 6,
     // A record's fields, the sum of all inputs, or a score.
-    WrongField,
+    WrongField = 7,
     // A link to a node that is not below its gate.
-    NotBelow,
+    NotBelow = 8,
     // A link to a node that an earlier link names.
-    LinkedBefore,
+    LinkedBefore = 9,
     // Four numbers that fall or exceed the unit.
-    NumberOrder,
+    NumberOrder = 10,
     // A term that is none, or of no listed expert.
-    WrongTerm,
+    WrongTerm = 11,
     // An opinion entry in which nobody spoke.
-    NobodySpoke,
+    NobodySpoke = 12,
     // The level is out of range.
-    WrongLevel,
+    WrongLevel = 13,
     // The store is shorter than the accepted file.
-    ShortStore,
+    ShortStore = 20,
     // No tree is held.
-    NoTree,
+    NoTree = 21,
     // No sheet is held.
-    NoSheet,
+    NoSheet = 22,
     // The held bytes are no longer an accepted file inside their store.
-    Changed,
+    Changed = 23,
     // The sheet is for another tree, or for another number of basic events.
-    OtherTree,
+    OtherTree = 24,
     // A work slice is shorter than the tree.
-    ShortSlice,
+    ShortSlice = 25,
     // The tree has more basic events than the number of a cut set has bits.
-    ManyEvents,
+    ManyEvents = 26,
     // The lent slice is shorter than the number of minimal cut sets.
-    ShortList,
+    ShortList = 27,
     // Four fractions that fall or exceed 1, a denominator out of range, or a last byte that is not 0.
-    WrongFractions,
+    WrongFractions = 28,
     // The length of a book of work windows, a window's event, or an end that is not after its first hour.
-    WrongBook,
+    WrongBook = 29,
     // The buffer for the sheet of an hour is shorter than the held sheet.
-    ShortBuffer,
+    ShortBuffer = 30,
     // A buffer for a mirrored file is shorter than the held file.
-    ShortMirror,
+    ShortMirror = 31,
 }
 
-// The rule's number.
-pub fn rule_number(rule: Rule) -> usize
-    ensures { result ≡ number_of rule }
-{
-    match rule {
-        Rule::TooShort => 1,
-        Rule::WrongLetters => 2,
-        Rule::WrongVersion => 3,
-        Rule::WrongCount => 4,
-        Rule::WrongLength => 5,
-        Rule::UnknownKind => 6,
-        Rule::WrongField => 7,
-        Rule::NotBelow => 8,
-        Rule::LinkedBefore => 9,
-        Rule::NumberOrder => 10,
-        Rule::WrongTerm => 11,
-        Rule::NobodySpoke => 12,
-        Rule::WrongLevel => 13,
-        Rule::ShortStore => 20,
-        Rule::NoTree => 21,
-        Rule::NoSheet => 22,
-        Rule::Changed => 23,
-        Rule::OtherTree => 24,
-        Rule::ShortSlice => 25,
-        Rule::ManyEvents => 26,
-        Rule::ShortList => 27,
-        Rule::WrongFractions => 28,
-        Rule::WrongBook => 29,
-        Rule::ShortBuffer => 30,
-        Rule::ShortMirror => 31,
+impl Rule {
+    // The rule's number.
+    pub fn number(self) -> usize
+        ensures { result ≡ number_of self }
+    {
+        self as usize
+    }
+
+    // The rule, broken at a place.
+    pub fn at(self, place: usize) -> Refusal
+        ensures { result ≡ refusal self place }
+    {
+        Refusal { rule: self, place }
     }
 }

@@ -1,4 +1,3 @@
--- What the code reckons is what theory's Rounding defines: marks, quotients, steps.
+-- What the code reckons is what theory's Rounding defines: marks, quotients and steps.
 pub mod Marks
-pub mod Quotient
-pub mod Steps
+pub mod Reckoned

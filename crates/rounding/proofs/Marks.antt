@@ -1,12 +1,9 @@
 -- An enclosure is its two ends; each is read off it, and each mark off a mark byte, as it was put in.
-use Prim.Native.Nat.{ℕ, ◌+◌, ◌*◌, ◌≤◌}
+use Prim.Native.Nat.{ℕ, ◌+◌, ◌*◌}
 use mathlib.Core.Path.{◌≡◌, refl, ap, ap₂}
 use mathlib.Core.Bool.{Bool, true, false, cond}
-use native.Mathlib.Omega.{arith}
-use mir.Val.{bool_byte}
 use Rattle.theory.specs.Rounding.{Direction, down, up, End}
 use Rattle.rounding.specs.declared.end.End.{End as CodeEnd}
-use Rattle.rounding.specs.declared.end.Enclosure.{Enclosure}
 use Rattle.rounding.specs.Ends.{as_code, enclosure, end_in}
 use Rattle.rounding.specs.Marks.{mark_byte, exact_in}
 
@@ -23,19 +20,6 @@ with_ends f l h = ap₂ (λ (a b : CodeEnd). record { lower = a; upper = b }) l 
 -- equal ends make one enclosure
 pub same_ends : (f g : Direction → End) → ((w : Direction) → f w ≡ g w) → enclosure f ≡ enclosure g
 same_ends f g h = with_ends g (ap as_code (h down)) (ap as_code (h up))
-
--- a mark as a number is 0 or 1
-pub bit_at_most : (m : Bool) → bool_byte m ≤ 1
-bit_at_most true = omega arith
-bit_at_most false = omega arith
-
--- the marks as numbers make the mark byte
-pub bits_are : (x : Enclosure) → bool_byte x.lower.exact + 2 * bool_byte x.upper.exact ≡ mark_byte x
-bits_are x = ap₂ (λ l u. l + 2 * u) (bit_is x.lower.exact) (bit_is x.upper.exact)
-  where
-    bit_is : (m : Bool) → bool_byte m ≡ cond m 1 0
-    bit_is true = refl
-    bit_is false = refl
 
 -- both marks are read off as they were put in
 read_off : (l u : Bool) → let m : ℕ = cond l 1 0 + 2 * cond u 1 0 in (exact_in down m ≡ l) × (exact_in up m ≡ u)

@@ -10,7 +10,7 @@ use crate::end::Enclosure;
 pub fn mark_byte(ends: Enclosure) -> u8
     ensures { result ≡ mark_byte ends }
 {
-    (ends.lower.exact as u8) + 2 * (ends.upper.exact as u8)
+    u8::from(ends.lower.exact) + 2 * u8::from(ends.upper.exact)
 }
 
 // Whether a mark byte marks the end in a direction exact.

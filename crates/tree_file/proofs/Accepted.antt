@@ -5,7 +5,7 @@ use mathlib.Core.List.{List}
 use native.Mathlib.Nat.{le_antisymm, le_of_eq, le_refl}
 use native.Mathlib.Omega.{arith}
 use borrow.Author.Tests.{le-leb, leb-true}
-use Rattle.refusals.specs.declared.refusal.FirstFault.TheVariants.{Absent}
+use Rattle.std.specs.Prelude.{Ok, Err}
 use Rattle.refusals.proofs.FirstFault.{AllAbsent, absent_first_of, among_absent, among_each, first_of_absent}
 use Rattle.refusals.proofs.FirstFault.{unless_holds}
 use Rattle.tree_file.specs.Format.{field_a, field_b, kind, link, link_count, node_count}
@@ -15,14 +15,13 @@ use Rattle.tree_file.specs.LinkRules.{gate_fault, input_fault, links_fault}
 use Rattle.tree_file.specs.Judged.{counts_of, fault_of, judged, rules}
 use Rattle.tree_file.specs.WellFormed.{WellFormed, WellFormedRecord}
 use Rattle.tree_file.specs.declared.judgement.Counts.{Counts}
-use Rattle.tree_file.specs.declared.judgement.Judgement.TheVariants.{Accepted}
 use Rattle.tree_file.proofs.Tallies.{gate_inputs, inputs_monotone, with_input}
 use Rattle.tree_file.proofs.HeaderLaws.{header_absent, header_well_formed}
 use Rattle.tree_file.proofs.RecordLaws.{inputs_within, record_absent, record_well_formed}
 use Rattle.tree_file.proofs.LinkLaws.{WellFormedLink, link_absent, link_well_formed, owner}
-use Rattle.tree_file.proofs.JudgedParts.{accepted_absent}
+use Rattle.refusals.proofs.FirstFault.{accepted_absent}
 
-module _ (file : List ℕ) (c : Counts) (e : judged file ≡ Accepted c) where
+module _ (file : List ℕ) (c : Counts) (e : judged file ≡ Ok c) where
   pub accepted_counts : c ≡ counts_of file
   accepted_counts = (accepted_absent (fault_of file) (counts_of file) c e).1
 
@@ -69,7 +68,7 @@ module _ (file : List ℕ) (w : WellFormed file) where
       let up_to = inputs_monotone file (suc i) (node_count file) l in
       rw ((w.node i l).gate_first g, ← gate_inputs file i g, ← w.all_inputs) up_to
 
-  link_here : (g k : ℕ) → g < node_count file → k < input_count file g → input_fault file g k ≡ Absent
+  link_here : (g k : ℕ) → g < node_count file → k < input_count file g → input_fault file g k ≡ Ok tt
   link_here g k gl kl =
       let gate = with_input file g k kl in
       let inside : field_a file g + k < link_count file =
@@ -77,20 +76,20 @@ module _ (file : List ℕ) (w : WellFormed file) where
       link_absent file g (field_a file g + k)
       (record { below = w.below g k gl kl; new = λ i lt. w.once i (field_a file g + k) lt inside })
 
-  sum_absent : sum_fault file ≡ Absent
+  sum_absent : sum_fault file ≡ Ok tt
   unfolding sum_fault
   sum_absent = rw (le-leb (link_count file) (inputs_before file (node_count file)) (le_of_eq (sym w.all_inputs)))
 
-  pub well_formed_absent : fault_of file ≡ Absent
+  pub well_formed_absent : fault_of file ≡ Ok tt
   unfolding fault_of
   well_formed_absent =
-      let records : records_fault file ≡ Absent =
+      let records : records_fault file ≡ Ok tt =
       among_absent (record_fault file) (node_count file)
       (λ i l. record_absent file i (w.node i l) (gate_links_end i l)) in
-      let links : links_fault file ≡ Absent =
+      let links : links_fault file ≡ Ok tt =
       among_absent (gate_fault file) (node_count file)
       (λ g gl. among_absent (input_fault file g) (input_count file g) (λ k kl. link_here g k gl kl)) in
       absent_first_of (rules file) (header_absent file w.header, (records, (sum_absent, (links, tt))))
 
-  pub well_formed_accepted : judged file ≡ Accepted (counts_of file)
+  pub well_formed_accepted : judged file ≡ Ok (counts_of file)
   well_formed_accepted = rw well_formed_absent

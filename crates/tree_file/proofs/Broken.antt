@@ -5,14 +5,13 @@ use mathlib.Core.Path.{◌≡◌, refl, subst}
 use mathlib.Core.List.{List}
 use Rattle.refusals.specs.Order.{First, Finds}
 use Rattle.refusals.specs.declared.refusal.Refusal.{Refusal}
-use Rattle.refusals.specs.declared.refusal.FirstFault.{FirstFault}
-use Rattle.refusals.specs.declared.refusal.FirstFault.TheVariants.{Found, Absent}
+use Rattle.refusals.specs.FirstFault.{FirstFault}
+use Rattle.std.specs.Prelude.{Ok, Err}
 use Rattle.refusals.proofs.Order.{finds, first_unique}
 use Rattle.tree_file.specs.Judged.{counts_of, fault_of, judged}
 use Rattle.tree_file.specs.Broken.{Breaks}
 use Rattle.tree_file.specs.declared.judgement.Counts.{Counts}
-use Rattle.tree_file.specs.declared.judgement.Judgement.TheVariants.{Accepted, Refused}
-use Rattle.tree_file.proofs.JudgedParts.{accepted_absent, refused_found}
+use Rattle.refusals.proofs.FirstFault.{accepted_absent, refused_found}
 use Rattle.tree_file.proofs.FaultBroken.{fault_broken}
 use Rattle.tree_file.proofs.BrokenStops.{broken_stops}
 
@@ -20,16 +19,16 @@ module _ (file : List ℕ) where
   pub first_broken : Finds (Breaks file) (fault_of file)
   first_broken = finds (Breaks file) (fault_of file) (fault_broken file) (broken_stops file)
 
-  pub refused_first : (r : Refusal) → judged file ≡ Refused r → First (Breaks file) r
+  pub refused_first : (r : Refusal) → judged file ≡ Err r → First (Breaks file) r
   refused_first r e = subst (Finds (Breaks file)) (refused_found (fault_of file) (counts_of file) r e) first_broken
 
-  pub first_refused : (r : Refusal) → First (Breaks file) r → judged file ≡ Refused r
+  pub first_refused : (r : Refusal) → First (Breaks file) r → judged file ≡ Err r
   first_refused r first = go (fault_of file) refl first_broken
     where
-      go : (f : FirstFault) → fault_of file ≡ f → Finds (Breaks file) f → judged file ≡ Refused r
-      go (Found q) e found = rw (e, first_unique found first)
-      go Absent e none = absurd (none r first.broken)
+      go : (f : FirstFault) → fault_of file ≡ f → Finds (Breaks file) f → judged file ≡ Err r
+      go (Err q) e found = rw (e, first_unique found first)
+      go (Ok tt) e none = absurd (none r first.broken)
 
-  pub accepted_unbroken : (c : Counts) → judged file ≡ Accepted c → (q : Refusal) → Breaks file q → ⊥
+  pub accepted_unbroken : (c : Counts) → judged file ≡ Ok c → (q : Refusal) → Breaks file q → ⊥
   accepted_unbroken c e =
       subst (Finds (Breaks file)) (accepted_absent (fault_of file) (counts_of file) c e).0 first_broken

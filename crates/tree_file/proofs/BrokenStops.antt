@@ -13,8 +13,8 @@ use Rattle.refusals.specs.Number.{number_of}
 use Rattle.refusals.specs.FirstFault.{unless, ◌or_else◌}
 use Rattle.refusals.specs.Order.{refusal, stage, order_place, by_place, by_number}
 use Rattle.refusals.specs.declared.refusal.Refusal.{Refusal}
-use Rattle.refusals.specs.declared.refusal.FirstFault.{FirstFault}
-use Rattle.refusals.specs.declared.refusal.FirstFault.TheVariants.{Absent}
+use Rattle.refusals.specs.FirstFault.{FirstFault}
+use Rattle.std.specs.Prelude.{Ok, Err}
 use Rattle.refusals.specs.declared.rule.Rule.TheVariants.{TooShort, WrongLetters, WrongVersion, WrongCount}
 use Rattle.refusals.specs.declared.rule.Rule.TheVariants.{WrongLength, UnknownKind, WrongField, NotBelow, LinkedBefore}
 use Rattle.refusals.proofs.FirstFault.{among_each, unless_holds}
@@ -124,7 +124,7 @@ module _ (file : List ℕ) where
       (past_letters _ _ (lit< tt)
       (past_version _ _ (lit< tt)
       (past_count _ _ (lit< tt)
-      (stops_rule (eqb (length file) (required_length file)) WrongLength (length file) Absent
+      (stops_rule (eqb (length file) (required_length file)) WrongLength (length file) (Ok tt)
       (ne_eqb (length file) (required_length file) (λ e. ne (omega arith)))))))
 
   -- Behind the header: what stands before a place.
@@ -134,7 +134,7 @@ module _ (file : List ℕ) where
     record_up_to i l =
         up_to_either q (unless (leb (kind file i) or_kind) UnknownKind (record_at file i)) _
         (up_to_unless q (leb (kind file i) or_kind) UnknownKind (record_at file i) (by_place (sym s) l))
-        (up_to_either q (unless (fields file i) WrongField (record_at file i)) Absent
+        (up_to_either q (unless (fields file i) WrongField (record_at file i)) (Ok tt)
         (up_to_unless q (fields file i) WrongField (record_at file i) (by_place (sym s) l)) (up_to_absent q))
 
     records_up_to : links_at file ≤ order_place q → UpTo q (records_fault file)
@@ -151,12 +151,12 @@ module _ (file : List ℕ) where
     link_up_to g j l =
         up_to_either q (unless (ltb (link file j) g) NotBelow (link_at file j)) _
         (up_to_unless q (ltb (link file j) g) NotBelow (link_at file j) (by_place (sym s) l))
-        (up_to_either q (unless (not (named file (link file j) j)) LinkedBefore (link_at file j)) Absent
+        (up_to_either q (unless (not (named file (link file j) j)) LinkedBefore (link_at file j)) (Ok tt)
         (up_to_unless q (not (named file (link file j) j)) LinkedBefore (link_at file j) (by_place (sym s) l))
         (up_to_absent q))
 
     -- Where the records have no fault, the links of the gates rise.
-    module _ (absent : records_fault file ≡ Absent) where
+    module _ (absent : records_fault file ≡ Ok tt) where
       record_here : (i : ℕ) → i < node_count file → WellFormedRecord file i
       record_here i l = record_well_formed file i (among_each (record_fault file) (node_count file) absent i l)
 
@@ -200,7 +200,7 @@ module _ (file : List ℕ) where
       (by_number refl refl (lit< tt)) in
       stops_among q (record_fault file) (node_count file) i l (λ k m. record_up_to q refl k (omega arith))
       (stops_past q (unless (leb (kind file i) or_kind) UnknownKind (record_at file i)) _ kind_first
-      (λ a. stops_rule (fields file i) WrongField (record_at file i) Absent (refuted _ (fields_fail i h))))
+      (λ a. stops_rule (fields file i) WrongField (record_at file i) (Ok tt) (refuted _ (fields_fail i h))))
 
   -- The sum.
   sum_stops : inputs_before file (node_count file) < link_count file
@@ -224,26 +224,26 @@ module _ (file : List ℕ) where
       (by_number refl refl (lit< tt)) in
       stops_past q (unless (ltb (link file j) g) NotBelow (link_at file j)) _ eight_first
       (λ a.
-      stops_rule (not (named file (link file j) j)) LinkedBefore (link_at file j) Absent
+      stops_rule (not (named file (link file j) j)) LinkedBefore (link_at file j) (Ok tt)
       (refuted _ (λ t. unnamed file (link file j) j (not-true (named file (link file j) j) t) i l e)))
 
   module _ (w : WellFormedHeader file) where
     behind_header : (q : Refusal)
-        → Stops q (records_fault file or_else sum_fault file or_else links_fault file or_else Absent)
+        → Stops q (records_fault file or_else sum_fault file or_else links_fault file or_else Ok tt)
         → Stops q (fault_of file)
     unfolding fault_of
     behind_header q k = rw (header_absent file w) k
 
     -- A refusal at a link, past the records and the sum.
     at_links : (q : Refusal) → stage q ≡ 6 → links_at file ≤ order_place q → 7 < number_of q.rule
-        → (records_fault file ≡ Absent → sum_fault file ≡ Absent → Stops q (links_fault file))
+        → (records_fault file ≡ Ok tt → sum_fault file ≡ Ok tt → Stops q (links_fault file))
         → Stops q (fault_of file)
     at_links q s p n k =
         behind_header q
         (stops_past q (records_fault file) _ (records_up_to q s p)
         (λ a.
         stops_past q (sum_fault file) _ (sum_up_to q s p n)
-        (λ b. stops_first q (links_fault file) Absent (k a b))))
+        (λ b. stops_first q (links_fault file) (Ok tt) (k a b))))
 
     below_reached : (g k : ℕ) → g < node_count file → IsGate file g → k < field_b file g
         → g ≤ link file (field_a file g + k)
@@ -262,7 +262,7 @@ module _ (file : List ℕ) where
         q : Refusal
         q = refusal LinkedBefore (link_at file j)
 
-        reached : records_fault file ≡ Absent → sum_fault file ≡ Absent → Stops q (links_fault file)
+        reached : records_fault file ≡ Ok tt → sum_fault file ≡ Ok tt → Stops q (links_fault file)
         reached a b =
             let all = leb-true (link_count file) (inputs_before file (node_count file)) (unless_holds _ _ _ b) in
             let o = owner file (node_count file) j (record_here q refl a) (omega arith) in

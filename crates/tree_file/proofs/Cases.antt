@@ -1,6 +1,6 @@
 -- Cases computed by the prover: the smallest accepted file, the smallest file for each refusal, the limits, both
 -- bytes of each field, and for each two neighbours in document 01's order a file that breaks both rules.
-use Rattle.std.specs.Prelude.{ℕ, zero, suc, ◌≡◌, refl, List, [], ◌∷◌, ◌++◌, map}
+use Rattle.std.specs.Prelude.{ℕ, zero, suc, ◌≡◌, refl, List, [], ◌∷◌, ◌++◌, map, Result, Ok, Err}
 use Rattle.fields.specs.Fields.{field16}
 use Rattle.refusals.specs.Number.{number_of}
 use Rattle.refusals.specs.FirstFault.{first_among}
@@ -9,17 +9,17 @@ use Rattle.tree_file.specs.HeaderRules.{header_fault}
 use Rattle.tree_file.specs.RecordRules.{has_fields, record_fault, sum_fault}
 use Rattle.tree_file.specs.LinkRules.{link_fault, named}
 use Rattle.tree_file.specs.Judged.{fault_of, judged}
-use Rattle.tree_file.specs.declared.judgement.Judgement.{Judgement}
-use Rattle.tree_file.specs.declared.judgement.Judgement.TheVariants.{Accepted, Refused}
+use Rattle.tree_file.specs.declared.judgement.Counts.{Counts}
+use Rattle.refusals.specs.declared.refusal.Refusal.{Refusal}
 
 -- A judgement by document 01's numbers: tree number, N and E of an accepted file, or a refusal's number and place.
 pub data Answer : Type 0 where
   accepted : ℕ → ℕ → ℕ → Answer
   refused : ℕ → ℕ → Answer
 
-abbrev pub answer : Judgement → Answer
-answer (Accepted c) = accepted c.number c.nodes c.events
-answer (Refused r) = refused (number_of r.rule) r.place
+abbrev pub answer : Result Counts Refusal → Answer
+answer (Ok c) = accepted c.number c.nodes c.events
+answer (Err r) = refused (number_of r.rule) r.place
 
 -- The header of tree 7 with these bytes for the version and the number of nodes.
 abbrev header_with : ℕ → ℕ → ℕ → ℕ → List ℕ

@@ -10,9 +10,9 @@ use native.Mathlib.Omega.{arith}
 use lib.ListN.{length}
 use lib.Dec.{leb, eqb, ltb}
 use borrow.Author.Tests.{le-leb, leb-true, leb-false, eq-eqb, ne_eqb, eqb-false, ltb-false, not-false}
-use Rattle.refusals.specs.FirstFault.{◌or_else◌}
+use Rattle.refusals.specs.FirstFault.{FirstFault, ◌or_else◌}
 use Rattle.refusals.specs.declared.refusal.Refusal.{Refusal}
-use Rattle.refusals.specs.declared.refusal.FirstFault.TheVariants.{Found, Absent}
+use Rattle.std.specs.Prelude.{Ok, Err}
 use Rattle.refusals.specs.declared.rule.Rule.TheVariants.{TooShort, WrongLetters, WrongVersion, WrongCount}
 use Rattle.refusals.specs.declared.rule.Rule.TheVariants.{WrongLength, UnknownKind, WrongField, NotBelow, LinkedBefore}
 use Rattle.refusals.proofs.FirstFault.{among_each, found_not_absent}
@@ -108,7 +108,7 @@ module _ (file : List ℕ) where
       go false q (no d) before = absurd (true≢false (sym e ∙ rw (q, ne_eqb (link file j) n d)))
 
   -- Of the header, rule by rule.
-  header_broken : (r : Refusal) → header_fault file ≡ Found r → Breaks file r
+  header_broken : (r : Refusal) → header_fault file ≡ Err r → Breaks file r
   unfolding header_fault
   header_broken r e0 =
       let in_range = leb 1 (node_count file) && leb (node_count file) max_nodes in
@@ -124,19 +124,19 @@ module _ (file : List ℕ) where
       rule_found (Breaks file) in_range WrongCount nodes_place _ r e3 (λ f. wrong_count long (out_of_range f))
       (λ t e4.
       let least = leb-true 1 (node_count file) ((and-eq-true_iff (leb 1 (node_count file)) _).0 t).0 in
-      rule_found (Breaks file) (eqb (length file) (required_length file)) WrongLength (length file) Absent r e4
+      rule_found (Breaks file) (eqb (length file) (required_length file)) WrongLength (length file) (Ok tt) r e4
       (λ f. wrong_length long least (λ q. eqb-false (length file) (required_length file) f (omega arith)))
       (λ t e5. found_not_absent (sym e5))))))
 
   module _ (w : WellFormedHeader file) where
     -- Of a record.
-    record_broken : (i : ℕ) → i < node_count file → (r : Refusal) → record_fault file i ≡ Found r → Breaks file r
+    record_broken : (i : ℕ) → i < node_count file → (r : Refusal) → record_fault file i ≡ Err r → Breaks file r
     unfolding record_fault
     record_broken i l r e =
         rule_found (Breaks file) (leb (kind file i) or_kind) UnknownKind (record_at file i) _ r e
         (λ f. unknown_kind w i l (leb-false (kind file i) or_kind f))
         (λ t e1.
-        rule_found (Breaks file) (fields i) WrongField (record_at file i) Absent r e1
+        rule_found (Breaks file) (fields i) WrongField (record_at file i) (Ok tt) r e1
         (λ f. wrong_fields w i l (by_kind (leb-true (kind file i) or_kind t) f))
         (λ t e2. found_not_absent (sym e2)))
       where
@@ -145,17 +145,17 @@ module _ (file : List ℕ) where
             ⊎_elim (λ z. event_wrong i z f) (λ g. gate_wrong i (g, known) f) (eq-zero-or-pos (kind file i))
 
     -- Of the sum.
-    sum_broken : (r : Refusal) → sum_fault file ≡ Found r → Breaks file r
+    sum_broken : (r : Refusal) → sum_fault file ≡ Err r → Breaks file r
     unfolding sum_fault
     sum_broken r e =
         let summed = leb (link_count file) (inputs_before file (node_count file)) in
         unless_found (Breaks file) summed WrongField (links_at file) r e
         (λ f. sum_below w (leb-false (link_count file) (inputs_before file (node_count file)) f))
 
-    module _ (absent : records_fault file ≡ Absent) where
+    module _ (absent : records_fault file ≡ Ok tt) where
       -- Of input k of gate g, where the records have no fault.
       input_broken : (g k : ℕ) → g < node_count file → k < input_count file g → (r : Refusal)
-          → input_fault file g k ≡ Found r → Breaks file r
+          → input_fault file g k ≡ Err r → Breaks file r
       unfolding link_fault
       input_broken g k gl kl r found =
           let j = field_a file g + k in
@@ -168,51 +168,52 @@ module _ (file : List ℕ) where
           not_below w g k gl (gate, (record_well_formed file g no_fault).known_kind) counted inside
           (ltb-false (link file j) g f))
           (λ t e1.
-          rule_found (Breaks file) (not (named file (link file j) j)) LinkedBefore (link_at file j) Absent r e1
+          rule_found (Breaks file) (not (named file (link file j) j)) LinkedBefore (link_at file j) (Ok tt) r e1
           (λ f.
           let o = name_found (link file j) j (not-false (named file (link file j) j) f) in
           linked_before w o.0 j o.1 inside o.2)
           (λ t e2. found_not_absent (sym e2)))
 
       -- Of the links.
-      links_broken : (r : Refusal) → links_fault file ≡ Found r → Breaks file r
+      links_broken : (r : Refusal) → links_fault file ≡ Err r → Breaks file r
       links_broken r e =
           let gate = among_found_at (gate_fault file) (node_count file) r e in
           let g = gate.index in
           let input = among_found_at (input_fault file g) (input_count file g) r gate.found in
           input_broken g input.index gate.inside input.inside r input.found
 
-      after_records : (r : Refusal) → sum_fault file or_else links_fault file or_else Absent ≡ Found r → Breaks file r
+      after_records : (r : Refusal) → sum_fault file or_else links_fault file or_else Ok tt ≡ Err r → Breaks file r
       after_records r e = by_sum (either_found (sum_fault file) _ r e)
         where
-          by_links : (links_fault file ≡ Found r) ⊎ (links_fault file ≡ Absent) × (Absent ≡ Found r) → Breaks file r
+          by_links : (links_fault file ≡ Err r) ⊎ (links_fault file ≡ Ok tt) × ◌≡◌ {A = FirstFault} (Ok tt) (Err r)
+              → Breaks file r
           by_links (inl a) = links_broken r a
           by_links (inr b) = found_not_absent (sym b.1)
 
-          by_sum : (sum_fault file ≡ Found r)
-              ⊎ (sum_fault file ≡ Absent) × (links_fault file or_else Absent ≡ Found r) → Breaks file r
+          by_sum : (sum_fault file ≡ Err r)
+              ⊎ (sum_fault file ≡ Ok tt) × (links_fault file or_else Ok tt ≡ Err r) → Breaks file r
           by_sum (inl a) = sum_broken r a
-          by_sum (inr b) = by_links (either_found (links_fault file) Absent r b.1)
+          by_sum (inr b) = by_links (either_found (links_fault file) (Ok tt) r b.1)
 
     after_header : (r : Refusal)
-        → records_fault file or_else sum_fault file or_else links_fault file or_else Absent ≡ Found r → Breaks file r
+        → records_fault file or_else sum_fault file or_else links_fault file or_else Ok tt ≡ Err r → Breaks file r
     after_header r e = by_records (either_found (records_fault file) _ r e)
       where
-        by_records : (records_fault file ≡ Found r)
-            ⊎ (records_fault file ≡ Absent) × (sum_fault file or_else links_fault file or_else Absent ≡ Found r)
+        by_records : (records_fault file ≡ Err r)
+            ⊎ (records_fault file ≡ Ok tt) × (sum_fault file or_else links_fault file or_else Ok tt ≡ Err r)
             → Breaks file r
         by_records (inl a) =
             let at = among_found_at (record_fault file) (node_count file) r a in
             record_broken at.index at.inside r at.found
         by_records (inr b) = after_records b.0 r b.1
 
-  pub fault_broken : (r : Refusal) → fault_of file ≡ Found r → Breaks file r
+  pub fault_broken : (r : Refusal) → fault_of file ≡ Err r → Breaks file r
   unfolding fault_of
   fault_broken r e = by_header (either_found (header_fault file) _ r e)
     where
-      by_header : (header_fault file ≡ Found r)
-          ⊎ (header_fault file ≡ Absent)
-          × (records_fault file or_else sum_fault file or_else links_fault file or_else Absent ≡ Found r)
+      by_header : (header_fault file ≡ Err r)
+          ⊎ (header_fault file ≡ Ok tt)
+          × (records_fault file or_else sum_fault file or_else links_fault file or_else Ok tt ≡ Err r)
           → Breaks file r
       by_header (inl a) = header_broken r a
       by_header (inr b) = after_header (header_well_formed file b.0) r b.1

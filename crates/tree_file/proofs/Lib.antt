@@ -3,6 +3,7 @@
 -- (Root). Cases are computed by the prover.
 pub mod Tallies
 pub mod HeaderLaws
+pub mod KindByte
 pub mod RecordLaws
 pub mod RecordsTurn
 pub mod LinkLaws

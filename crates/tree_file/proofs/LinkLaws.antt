@@ -8,7 +8,7 @@ use native.Mathlib.Decide.{dec_lt, ℕ_discrete}
 use native.Mathlib.Omega.{arith}
 use lib.Dec.{eqb}
 use borrow.Author.Tests.{lt-ltb, ltb-true, eqb-false, ne_eqb, not-true}
-use Rattle.refusals.specs.declared.refusal.FirstFault.TheVariants.{Absent}
+use Rattle.std.specs.Prelude.{Ok, Err}
 use Rattle.refusals.proofs.FirstFault.{first_of_absent, unless_holds}
 use Rattle.tree_file.specs.Format.{field_a, link}
 use Rattle.tree_file.specs.Tallies.{input_count, inputs_before}
@@ -44,7 +44,7 @@ pub record WellFormedLink (file : List ℕ) (g j : ℕ) : Type 0 where
   pub below : link file j < g
   pub new : (i : ℕ) → i < j → link file i ≡ link file j → ⊥
 
-pub link_well_formed : (file : List ℕ) (g j : ℕ) → link_fault file g j ≡ Absent → WellFormedLink file g j
+pub link_well_formed : (file : List ℕ) (g j : ℕ) → link_fault file g j ≡ Ok tt → WellFormedLink file g j
 unfolding link_fault
 link_well_formed file g j e =
     let rules = first_of_absent (link_rules file g j) e in
@@ -53,7 +53,7 @@ link_well_formed file g j e =
       new = unnamed file (link file j) j (not-true (named file (link file j) j) (unless_holds _ _ _ rules.1.0));
     }
 
-pub link_absent : (file : List ℕ) (g j : ℕ) → WellFormedLink file g j → link_fault file g j ≡ Absent
+pub link_absent : (file : List ℕ) (g j : ℕ) → WellFormedLink file g j → link_fault file g j ≡ Ok tt
 unfolding link_fault
 link_absent file g j w = rw (lt-ltb (link file j) g w.below, not_named file (link file j) j w.new)
 

@@ -11,7 +11,9 @@ use lib.Dec.{leb, eqb}
 use borrow.Author.Tests.{le-leb, lt-leb, leb-true, eq-eqb, ne_eqb, eqb-true, not-true, not-false}
 use Rattle.fields.specs.Fields.{Is16}
 use Rattle.refusals.specs.FirstFault.{first_of, unless}
-use Rattle.refusals.specs.declared.refusal.FirstFault.TheVariants.{Found, Absent}
+use Rattle.refusals.specs.Order.{refusal}
+use Rattle.refusals.specs.declared.refusal.Refusal.{Refusal}
+use Rattle.std.specs.Prelude.{Ok, Err}
 use Rattle.refusals.specs.declared.rule.Rule.TheVariants.{UnknownKind, WrongField}
 use Rattle.refusals.proofs.FirstFault.{AllAbsent, among_each, first_of_absent, unless_holds}
 use Rattle.tree_file.specs.Format.{field_a, field_b, kind, link_count, max_inputs, node_count, or_kind}
@@ -23,10 +25,10 @@ use Rattle.tree_file.specs.WellFormed.{WellFormedRecord}
 use Rattle.tree_file.specs.Requirements.{Sized, Tallied}
 use Rattle.tree_file.proofs.Tallies.{basic_inputs, gate_inputs}
 
-pub unknown_kind : (file : List ℕ) (i k place : ℕ) → k ≡ kind file i → place ≡ record_at file i → 2 < k
-    → Found (record { rule = UnknownKind; place = place }) ≡ record_fault file i
+pub unknown_kind : (file : List ℕ) (i k place : ℕ) (r : Refusal) → k ≡ kind file i → place ≡ record_at file i
+    → r ≡ refusal UnknownKind place → 2 < k → Err r ≡ record_fault file i
 unfolding record_fault
-unknown_kind file i k place e p h = rw (p, lt-leb (kind file i) 2 (rw e at h))
+unknown_kind file i k place r e p re h = rw (re, p, lt-leb (kind file i) 2 (rw e at h))
 
 pub event_test : (k a b events inputs links : ℕ) (r : Bool) → k ≡ 0 → r ≡ is_event a b events
     → r ≡ has_fields k a b events inputs links
@@ -55,11 +57,11 @@ module _ (file : List ℕ) (nodes i k a b events inputs : ℕ) (s : Sized file n
         le-leb (kind file i) 2 (rw ke at known),
       )
 
-  pub wrong_fields : (place : ℕ) → place ≡ record_at file i → not r ≡ true
-      → Found (record { rule = WrongField; place = place }) ≡ record_fault file i
-  wrong_fields place p h = rw (p, last_rule, not-true r h)
+  pub wrong_fields : (place : ℕ) (q : Refusal) → place ≡ record_at file i → q ≡ refusal WrongField place
+      → not r ≡ true → Err q ≡ record_fault file i
+  wrong_fields place q p qe h = rw (qe, p, last_rule, not-true r h)
 
-  pub record_passed : not r ≡ false → Absent ≡ record_fault file i
+  pub record_passed : not r ≡ false → Ok tt ≡ record_fault file i
   record_passed h = rw (last_rule, not-false r h)
 
 -- What the tests of the fields say.
@@ -91,7 +93,7 @@ gate_facts k a b events inputs links g h =
       end = leb-true (a + b) links all.1;
     }
 
-module _ (file : List ℕ) (i : ℕ) (e : record_fault file i ≡ Absent) where
+module _ (file : List ℕ) (i : ℕ) (e : record_fault file i ≡ Ok tt) where
   rules : AllAbsent (record_rules file i)
   unfolding record_fault
   rules = first_of_absent (record_rules file i) e
@@ -118,7 +120,7 @@ module _ (file : List ℕ) (i : ℕ) (e : record_fault file i ≡ Absent) where
   links_end g = (gate g).end
 
 pub record_absent : (file : List ℕ) (i : ℕ) → WellFormedRecord file i
-    → (0 < kind file i → field_a file i + field_b file i ≤ link_count file) → record_fault file i ≡ Absent
+    → (0 < kind file i → field_a file i + field_b file i ≤ link_count file) → record_fault file i ≡ Ok tt
 unfolding record_fault has_fields
 record_absent file i w end =
     let k = le-leb (kind file i) or_kind w.known_kind in
@@ -142,7 +144,7 @@ record_absent file i w end =
     (eq-zero-or-pos (kind file i))
 
 -- Where no record has a fault, the links of the first i nodes lie within the N − 1 links.
-pub inputs_within : (file : List ℕ) → records_fault file ≡ Absent → (i : ℕ) → i ≤ node_count file
+pub inputs_within : (file : List ℕ) → records_fault file ≡ Ok tt → (i : ℕ) → i ≤ node_count file
     → inputs_before file i ≤ link_count file
 unfolding inputs_before
 inputs_within file e zero l = zero-le

@@ -7,9 +7,10 @@ use native.Mathlib.Numerals.{add-one}
 use native.Mathlib.Omega.{arith}
 use borrow.Author.Tests.{le-leb, lt-leb, eq-eqb, ne_eqb}
 use Rattle.fields.specs.Fields.{Is16}
+use Rattle.refusals.specs.Order.{refusal}
 use Rattle.refusals.specs.declared.refusal.Refusal.{Refusal}
-use Rattle.refusals.specs.declared.refusal.FirstFault.{FirstFault}
-use Rattle.refusals.specs.declared.refusal.FirstFault.TheVariants.{Found, Absent}
+use Rattle.refusals.specs.FirstFault.{FirstFault}
+use Rattle.std.specs.Prelude.{Ok, Err}
 use Rattle.refusals.specs.declared.rule.Rule.TheVariants.{WrongField}
 use Rattle.refusals.proofs.FirstFault.{Passed, passed_all, passed_found, passed_more, passed_none}
 use Rattle.tree_file.specs.Format.{field_b, kind, node_count, record_at, tree_number}
@@ -17,7 +18,6 @@ use Rattle.tree_file.specs.Tallies.{event_count, events_before, input_count, inp
 use Rattle.tree_file.specs.RecordRules.{record_fault, records_fault, sum_fault}
 use Rattle.tree_file.specs.Judged.{records_judged}
 use Rattle.tree_file.specs.Requirements.{Sized, Tallied}
-use Rattle.tree_file.specs.declared.judgement.Judgement.TheVariants.{Accepted, Refused}
 
 -- The first i records have no fault, and the counts are theirs. The bounds keep the sums within a machine word.
 pub record RecordsBefore (file : List ℕ) (nodes i events inputs : ℕ) : Type 0 where
@@ -39,10 +39,10 @@ records_none file nodes =
 module _ (file : List ℕ) (nodes i events inputs : ℕ) (s : Sized file nodes)
     (h : RecordsBefore file nodes i events inputs) where
   module _ (lt : i < nodes) (f : FirstFault) (e : f ≡ record_fault file i) where
-    pub records_stop : (r : Refusal) → f ≡ Found r → Refused r ≡ records_judged file
+    pub records_stop : (r : Refusal) → f ≡ Err r → Err r ≡ records_judged file
     records_stop r q = rw (← s.nodes_value, ← passed_found h.passed lt (sym e ∙ q))
 
-    module _ (q : f ≡ Absent) (k : ℕ) (ke : k ≡ kind file i) where
+    module _ (q : f ≡ Ok tt) (k : ℕ) (ke : k ≡ kind file i) where
       pub event_more : k ≡ 0 → RecordsBefore file nodes (i + 1) (events + 1) inputs
       unfolding events_before inputs_before input_count
       event_more z =
@@ -76,7 +76,7 @@ module _ (file : List ℕ) (nodes i events inputs : ℕ) (s : Sized file nodes)
     at_end : i ≡ node_count file
     at_end = le_antisymm h.passed.within end ∙ s.nodes_value
 
-    all_absent : records_fault file ≡ Absent
+    all_absent : records_fault file ≡ Ok tt
     all_absent = sym (rw s.nodes_value at (passed_all h.passed end))
 
     all_inputs : inputs ≡ inputs_before file (node_count file)
@@ -85,14 +85,14 @@ module _ (file : List ℕ) (nodes i events inputs : ℕ) (s : Sized file nodes)
     all_events : events ≡ event_count file
     all_events = h.tallied.events_value ∙ ap (λ (n : ℕ). events_before file n) at_end
 
-    pub inputs_missing : (place : ℕ) → place ≡ record_at file nodes → inputs < nodes - 1
-        → Refused (record { rule = WrongField; place = place }) ≡ records_judged file
+    pub inputs_missing : (place : ℕ) (r : Refusal) → place ≡ record_at file nodes → r ≡ refusal WrongField place
+        → inputs < nodes - 1 → Err r ≡ records_judged file
     unfolding sum_fault
-    inputs_missing place p l =
-        rw (p, all_absent, ← all_inputs, ← s.nodes_value, lt-leb (nodes - 1) inputs l)
+    inputs_missing place r p re l =
+        rw (re, p, all_absent, ← all_inputs, ← s.nodes_value, lt-leb (nodes - 1) inputs l)
 
     pub records_accepted : (n : ℕ) → Is16 n (tree_number file) → nodes - 1 ≤ inputs
-        → Accepted (record { number = n; nodes = nodes; events = events }) ≡ records_judged file
+        → Ok (record { number = n; nodes = nodes; events = events }) ≡ records_judged file
     unfolding sum_fault
     records_accepted n ne l =
         rw (all_absent, ne.value, all_events, ← all_inputs, ← s.nodes_value, le-leb (nodes - 1) inputs l)

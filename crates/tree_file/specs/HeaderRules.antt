@@ -1,7 +1,7 @@
 -- The rules of the header, in document 01's order: refusals 1 to 5.
 use Rattle.std.specs.Prelude.{ℕ, ◌&&◌, List, [], ◌∷◌, length, leb, eqb}
 use Rattle.refusals.specs.FirstFault.{first_of, unless}
-use Rattle.refusals.specs.declared.refusal.FirstFault.{FirstFault}
+use Rattle.refusals.specs.FirstFault.{FirstFault}
 use Rattle.refusals.specs.declared.rule.Rule.TheVariants.{TooShort, WrongLetters, WrongVersion, WrongCount}
 use Rattle.refusals.specs.declared.rule.Rule.TheVariants.{WrongLength}
 use Rattle.tree_file.specs.Format.{has_letters, header_length, letters_place, max_nodes, node_count, nodes_place}

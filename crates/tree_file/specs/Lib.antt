@@ -4,6 +4,7 @@
 -- `root_has_all_events` (Root). For inner contracts only: `Requirements` without `HasLink`, `records_judged` of
 -- `Judged`.
 pub mod Format
+pub mod Kind
 pub mod Tallies
 pub mod HeaderRules
 pub mod RecordRules

@@ -1,7 +1,7 @@
 -- The rules of the links, rising: each link by 8 and then by 9, before the next.
 use Rattle.std.specs.Prelude.{ℕ, zero, suc, ◌+◌, Bool, false, not, ◌||◌, List, [], ◌∷◌, ltb, eqb}
 use Rattle.refusals.specs.FirstFault.{first_among, first_of, unless}
-use Rattle.refusals.specs.declared.refusal.FirstFault.{FirstFault}
+use Rattle.refusals.specs.FirstFault.{FirstFault}
 use Rattle.refusals.specs.declared.rule.Rule.TheVariants.{NotBelow, LinkedBefore}
 use Rattle.tree_file.specs.Format.{field_a, link, link_at, node_count}
 use Rattle.tree_file.specs.Tallies.{input_count}

@@ -1,7 +1,7 @@
 -- The rules of the records, rising, the kind before a and b, and then that of the sum of b: refusals 6 and 7.
 use Rattle.std.specs.Prelude.{ℕ, ◌+◌, Bool, ◌&&◌, cond, List, [], ◌∷◌, leb, eqb}
 use Rattle.refusals.specs.FirstFault.{first_among, first_of, unless}
-use Rattle.refusals.specs.declared.refusal.FirstFault.{FirstFault}
+use Rattle.refusals.specs.FirstFault.{FirstFault}
 use Rattle.refusals.specs.declared.rule.Rule.TheVariants.{UnknownKind, WrongField}
 use Rattle.tree_file.specs.Format.{event_kind, field_a, field_b, kind, link_count, links_at, max_inputs}
 use Rattle.tree_file.specs.Format.{node_count, or_kind, record_at}

@@ -6,6 +6,7 @@ ghost use Rattle.tree_file.specs.Format.{record_at, record_length};
 ghost use Rattle.tree_file.specs.Tallies.{input_count};
 ghost use Rattle.tree_file.specs.Requirements.{HasRecord};
 
+use crate::kind::RecordKind;
 use fields::fields::{byte_at, field16_at};
 
 // The lengths in bytes of the header, a record and a link.
@@ -35,13 +36,6 @@ pub const VERSION: usize = 1;
 pub const MAX_NODES: usize = 1024;
 
 pub const MAX_INPUTS: usize = 16;
-
-// The kinds of a record.
-pub const EVENT: usize = 0;
-
-pub const AND: usize = 1;
-
-pub const OR: usize = 2;
 
 // Whether the file begins with FTF.
 pub fn has_letters(file: &[u8]) -> bool
@@ -97,7 +91,7 @@ pub fn input_count_at(file: &[u8], i: usize) -> usize
     requires { HasRecord file.now i × (i < 65536) }
     ensures { Is16 result (input_count file.now i) }
 {
-    if kind_at(file, i) == EVENT {
+    if kind_at(file, i) == RecordKind::Event as usize {
         return 0;
     }
     field_at(file, i, B_OFFSET)

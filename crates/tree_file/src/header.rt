@@ -7,46 +7,31 @@ use crate::format::{
     link_at, node_count,
 };
 use fields::fields::field16_at;
-use refusals::refusal::{FirstFault, Refusal};
+use refusals::refusal::Refusal;
 use refusals::rule::Rule;
 
 // The first fault of the header.
-pub fn judge_header(file: &[u8]) -> FirstFault
+pub fn judge_header(file: &[u8]) -> Result<(), Refusal>
     ensures { result ≡ header_fault file.now }
 {
     let length = file.len();
     if length < HEADER_LENGTH {
-        return FirstFault::Found(Refusal {
-            rule: Rule::TooShort,
-            place: length,
-        });
+        return Err(Rule::TooShort.at(length));
     }
     if !has_letters(file) {
-        return FirstFault::Found(Refusal {
-            rule: Rule::WrongLetters,
-            place: LETTERS_PLACE,
-        });
+        return Err(Rule::WrongLetters.at(LETTERS_PLACE));
     }
     let version = field16_at(file, VERSION_PLACE);
     if version != VERSION {
-        return FirstFault::Found(Refusal {
-            rule: Rule::WrongVersion,
-            place: VERSION_PLACE,
-        });
+        return Err(Rule::WrongVersion.at(VERSION_PLACE));
     }
     let nodes = node_count(file);
     let in_range = (1 <= nodes) & (nodes <= MAX_NODES);
     if !in_range {
-        return FirstFault::Found(Refusal {
-            rule: Rule::WrongCount,
-            place: NODES_PLACE,
-        });
+        return Err(Rule::WrongCount.at(NODES_PLACE));
     }
     if length != link_at(file, nodes - 1) {
-        return FirstFault::Found(Refusal {
-            rule: Rule::WrongLength,
-            place: length,
-        });
+        return Err(Rule::WrongLength.at(length));
     }
-    FirstFault::Absent
+    Ok(())
 }

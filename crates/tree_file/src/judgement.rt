@@ -1,5 +1,4 @@
 // What judging a tree file answers.
-use refusals::refusal::Refusal;
 
 // What an accepted tree file holds: its tree number, its nodes (N) and its basic events (E).
 #[derive(Clone, Copy)]
@@ -7,11 +6,4 @@ pub struct Counts {
     pub number: usize,
     pub nodes: usize,
     pub events: usize,
-}
-
-// Accepted with what it holds, or refused.
-#[derive(Drop)]
-pub enum Judgement {
-    Accepted(Counts),
-    Refused(Refusal),
 }

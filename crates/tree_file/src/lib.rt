@@ -5,6 +5,7 @@ pub mod format;
 mod header;
 pub mod judge;
 pub mod judgement;
+pub mod kind;
 mod links;
 pub mod node;
 mod records;

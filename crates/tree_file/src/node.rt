@@ -6,7 +6,8 @@ ghost use Rattle.tree_file.specs.WellFormed.{WellFormed};
 ghost use Rattle.tree_file.specs.NodeTable.{read_node};
 ghost use Rattle.tree_file.specs.Requirements.{HasLink};
 
-use crate::format::{A_OFFSET, AND, B_OFFSET, EVENT, LINK_LENGTH, field_at, kind_at, link_at};
+use crate::format::{A_OFFSET, B_OFFSET, LINK_LENGTH, field_at, kind_at, link_at};
+use crate::kind::RecordKind;
 use fields::fields::field16_at;
 
 // A gate fails when all its inputs do (AND), or when any does (OR).
@@ -38,19 +39,17 @@ pub fn node_at(file: &[u8], i: usize) -> Node
 {
     let kind = kind_at(file, i);
     let first = field_at(file, i, A_OFFSET);
-    if kind == EVENT {
+    if kind == RecordKind::Event as usize {
         return Node::Event(first);
     }
     let inputs = field_at(file, i, B_OFFSET);
-    if kind == AND {
-        return Node::Gate(Gate {
-            kind: GateKind::All,
-            first,
-            inputs,
-        });
-    }
+    let kind = if kind == RecordKind::And as usize {
+        GateKind::All
+    } else {
+        GateKind::Any
+    };
     Node::Gate(Gate {
-        kind: GateKind::Any,
+        kind,
         first,
         inputs,
     })

@@ -1,6 +1,7 @@
 // Reading a call: a byte that says which, and five numbers of 32 bits, low byte first.
 use fields::fields::field32_at;
-use program_text::read::read_full;
+use monitor::state::State;
+use program_text::read::read_head;
 
 // A call on the monitor, or a setting of what it works on.
 #[derive(Clone, Copy)]
@@ -8,10 +9,9 @@ pub enum Call {
     // The lengths of the tree store and of the sheet store.
     Stores(usize, usize),
     // A place of a store and the byte put there.
-    PokeTree(usize, u32),
-    PokeSheet(usize, u32),
-    // The held lengths.
-    Held(usize, usize),
+    PokeTree(usize, u8),
+    PokeSheet(usize, u8),
+    Held(State),
     // The length of the file that follows.
     Tree(usize),
     Sheet(usize),
@@ -22,19 +22,11 @@ pub enum Call {
     Count,
     // The places of the lent slice.
     CutSets(usize),
-    AtHour(AtHour),
-    // The list is at its end, or what follows is no call.
-    End,
-}
-
-// A question at an hour, or a setting of what is lent for it.
-#[derive(Clone, Copy)]
-pub enum AtHour {
     // The length of the book that follows.
     Book(usize),
     // The hour, and the length of the buffer for its sheet.
     Hour(u32, usize),
-    Question(Question),
+    HourQuestion(Question),
 }
 
 // Level k of n, and the lengths of the three work slices.
@@ -47,58 +39,39 @@ pub struct Question {
     pub marks: usize,
 }
 
-// A question by its numbers.
-fn question_of(k: u32, n: u32, lower: u32, upper: u32, marks: u32) -> Question {
-    Question {
+// The next call on standard input, without the file that may follow it; none at the end of the list, or where what
+// follows is no call.
+pub fn read_call(rt: &impl Input) -> Option<Call> {
+    let head: [u8; 21] = read_head(rt).ok()?;
+    let k = field32_at(&head, 1);
+    let n = field32_at(&head, 5);
+    let first = k as usize;
+    let second = n as usize;
+    let question = Question {
         k,
         n,
-        lower: lower as usize,
-        upper: upper as usize,
-        marks: marks as usize,
+        lower: field32_at(&head, 9) as usize,
+        upper: field32_at(&head, 13) as usize,
+        marks: field32_at(&head, 17) as usize,
+    };
+    match head[0] {
+        1 => Some(Call::Stores(first, second)),
+        2 => Some(Call::PokeTree(first, head[5])),
+        3 => Some(Call::PokeSheet(first, head[5])),
+        4 => Some(Call::Held(State {
+            tree_len: first,
+            sheet_len: second,
+        })),
+        5 => Some(Call::Tree(first)),
+        6 => Some(Call::Sheet(first)),
+        7 => Some(Call::Drop),
+        8 => Some(Call::Judge(k, n)),
+        9 => Some(Call::Question(question)),
+        10 => Some(Call::Count),
+        11 => Some(Call::CutSets(first)),
+        12 => Some(Call::Book(first)),
+        13 => Some(Call::Hour(k, second)),
+        14 => Some(Call::HourQuestion(question)),
+        _ => None,
     }
-}
-
-// The call at an hour that a byte and its numbers spell.
-fn hour_call_of(which: u8, one: u32, two: u32, three: u32, four: u32, five: u32) -> Call {
-    match which {
-        12 => Call::AtHour(AtHour::Book(one as usize)),
-        13 => Call::AtHour(AtHour::Hour(one, two as usize)),
-        14 => Call::AtHour(AtHour::Question(question_of(one, two, three, four, five))),
-        _ => Call::End,
-    }
-}
-
-// The call that a byte and its numbers spell.
-fn call_of(which: u8, one: u32, two: u32, three: u32, four: u32, five: u32) -> Call {
-    match which {
-        1 => Call::Stores(one as usize, two as usize),
-        2 => Call::PokeTree(one as usize, two),
-        3 => Call::PokeSheet(one as usize, two),
-        4 => Call::Held(one as usize, two as usize),
-        5 => Call::Tree(one as usize),
-        6 => Call::Sheet(one as usize),
-        7 => Call::Drop,
-        8 => Call::Judge(one, two),
-        9 => Call::Question(question_of(one, two, three, four, five)),
-        10 => Call::Count,
-        11 => Call::CutSets(one as usize),
-        _ => hour_call_of(which, one, two, three, four, five),
-    }
-}
-
-// The next call on standard input, without the file that may follow it.
-pub fn read_call(rt: &impl Input) -> Call {
-    let mut head = [0u8; 21];
-    let got = read_full(rt, &mut head);
-    if got < 21 {
-        return Call::End;
-    }
-    call_of(
-        head[0],
-        field32_at(&head, 1),
-        field32_at(&head, 5),
-        field32_at(&head, 9),
-        field32_at(&head, 13),
-        field32_at(&head, 17),
-    )
 }

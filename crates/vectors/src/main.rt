@@ -4,20 +4,14 @@
 
 mod ask;
 mod call;
-mod checksum;
 mod desk;
-mod fill;
-mod front;
 mod hand_in;
-mod hours;
-mod print;
+mod lent;
 mod run;
-mod set_sums;
 mod sets;
+mod slice;
 
 fn main(rt: HostRuntime) {
-    let mut tree = [0u8; 7200];
-    let mut sheet = [0u8; 17500];
-    let mut book = [0u8; 2600];
-    run::run(&rt, &mut tree, &mut sheet, &mut book);
+    // A write that fails ends the list.
+    let _ = run::run(&rt);
 }

@@ -7,7 +7,7 @@ use native.Mathlib.Omega.{arith}
 use lib.Dec.{lit<, lit≤}
 use Rattle.fields.specs.Fields.{field24, field32}
 use Rattle.fields.proofs.Alike.{Alike, alike_from, byte_alike, field24_alike, field32_alike}
-use Rattle.refusals.specs.declared.refusal.FirstFault.TheVariants.{Absent}
+use Rattle.std.specs.Prelude.{Ok}
 use Rattle.opinion_sheet.specs.Format.{entry_at, event_count, expert_count, kind, term, terms_at}
 use Rattle.opinion_sheet.specs.Format.{unit}
 use Rattle.opinion_sheet.specs.EntryRules.{numbers_of, fractions_of}
@@ -15,7 +15,8 @@ use Rattle.opinion_sheet.specs.Judged.{fault_of, counts_of}
 use Rattle.opinion_sheet.specs.WellFormed.{WellFormed, WellFormedEntry}
 use Rattle.opinion_sheet.specs.WellFormed.{WellFormedOpinions}
 use Rattle.opinion_sheet.proofs.HeaderKept.{same_events, same_experts, header_formed, scores_formed}
-use Rattle.opinion_sheet.proofs.Accepted.{accepted_absent, well_formed_accepted}
+use Rattle.refusals.proofs.FirstFault.{accepted_absent}
+use Rattle.opinion_sheet.proofs.Accepted.{well_formed_accepted}
 use Rattle.work_windows.specs.Sheet.{Written}
 
 module _ (sheet : List ℕ) (out : ℕ → Bool) (after : List ℕ) (w : Written sheet out after) where
@@ -55,10 +56,12 @@ module _ (sheet : List ℕ) (out : ℕ → Bool) (after : List ℕ) (w : Written
         same_fractions : fractions_of after at ≡ fractions_of sheet at
         same_fractions = λ i. record {
           den = part 1 (lit< tt) i;
-          a = part 4 (lit< tt) i;
-          b = part 7 (lit< tt) i;
-          c = part 10 (lit< tt) i;
-          d = part 13 (lit< tt) i;
+          numerators = record {
+            a = part 4 (lit< tt) i;
+            b = part 7 (lit< tt) i;
+            c = part 10 (lit< tt) i;
+            d = part 13 (lit< tt) i;
+          };
         }
 
         same_term : (i : ℕ) → i < 16 → term after (terms_at after e) i ≡ term sheet (terms_at sheet e) i
@@ -125,7 +128,7 @@ module _ (sheet : List ℕ) (out : ℕ → Bool) (after : List ℕ) (w : Written
     }
 
     -- and so without a fault
-    pub written_unfaulted : fault_of after ≡ Absent
+    pub written_unfaulted : fault_of after ≡ Ok tt
     written_unfaulted =
         (accepted_absent (fault_of after) (counts_of after) (counts_of after)
         (well_formed_accepted after written_well_formed)).0

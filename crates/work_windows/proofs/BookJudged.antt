@@ -1,4 +1,4 @@
--- The judging of a book: by what is found of a window and of the length, and what a fault or none means.
+-- The judging of a book: what a fault or none means.
 use Prim.Native.Nat.{ℕ, ◌+◌, ◌*◌, ◌%◌, ◌≤◌, ◌<◌}
 use mathlib.Core.Path.{◌≡◌, refl, sym, ap, ◌∙◌}
 use mathlib.Core.Bool.{Bool, true, false, true≢false, and-eq-true_iff, and-false}
@@ -13,9 +13,8 @@ use Rattle.refusals.specs.FirstFault.{unless, ◌or_else◌, first_of, first_amo
 use Rattle.refusals.specs.Order.{refusal, stage, order_place, Earlier, by_place, Finds}
 use Rattle.refusals.specs.declared.rule.Rule.TheVariants.{WrongBook}
 use Rattle.refusals.specs.declared.refusal.Refusal.{Refusal}
-use Rattle.refusals.specs.declared.refusal.FirstFault.{FirstFault}
-use Rattle.refusals.specs.declared.refusal.FirstFault.TheVariants.{Absent}
-use Rattle.refusals.proofs.FirstFault.{AllAbsent, first_of_absent, among_each, among_absent, or_else_absent}
+use Rattle.std.specs.Prelude.{Ok}
+use Rattle.refusals.proofs.FirstFault.{AllAbsent, first_of_absent, among_each, among_absent}
 use Rattle.refusals.proofs.FirstFault.{unless_holds}
 use Rattle.refusals.proofs.Finds.{Case, Among, finds_same, finds_unless, finds_either, finds_last, finds_rule}
 use Rattle.refusals.proofs.Finds.{finds_among}
@@ -23,35 +22,6 @@ use Rattle.work_windows.specs.Book.{window_length, most_book, window_count, even
 use Rattle.work_windows.specs.Book.{first_hour, end_hour}
 use Rattle.work_windows.specs.BookRules.{length_rule, window_rules, window_fault, book_rules, book_fault}
 use Rattle.work_windows.specs.WellFormed.{RightLength, WellFormed, Breaks, wrong_length, wrong_event, wrong_end}
-
--- A window by what is read of it.
-module _ (E : ℕ) (book : List ℕ) (i event : ℕ) (is_event : event ≡ window_event book i) where
-  -- its event is not below E
-  pub event_wrong : E ≤ event → unless false WrongBook (event_place i) ≡ window_fault E book i
-  event_wrong l = rw (← is_event, le-ltb event E l)
-
-  module _ (below : event < E) (first : ℕ) (is_first : first ≡ first_hour book i)
-      (end : ℕ) (is_end : end ≡ end_hour book i) where
-    -- its end is not after its first hour
-    pub end_wrong : end ≤ first → unless false WrongBook (end_place i) ≡ window_fault E book i
-    end_wrong l = rw (← is_event, lt-ltb event E below, ← is_first, ← is_end, le-ltb first end l)
-
-    -- it has no fault
-    pub window_kept : first < end → Absent ≡ window_fault E book i
-    window_kept l = rw (← is_event, lt-ltb event E below, ← is_first, ← is_end, lt-ltb first end l)
-
--- A book by its length.
-module _ (E : ℕ) (book : List ℕ) where
-  -- a wrong one
-  pub length_wrong : length_rule (length book) ≡ false → unless false WrongBook (length book) ≡ book_fault E book
-  unfolding book_fault
-  length_wrong e = rw e
-
-  -- a right one leaves the windows
-  pub windows_judged : length_rule (length book) ≡ true → (found : FirstFault)
-      → found ≡ first_among (window_fault E book) (window_count book) → found ≡ book_fault E book
-  unfolding book_fault
-  windows_judged e found q = rw (e, or_else_absent (first_among (window_fault E book) (window_count book))) q
 
 -- The rule of the length.
 right_says : (n : ℕ) → length_rule n ≡ true → RightLength n
@@ -75,7 +45,7 @@ wrong_shows n (inr d) = rw (ne_eqb (n % window_length) 0 d) (and-false (leb n mo
 
 module _ (E : ℕ) (book : List ℕ) where
   -- a book without a fault is well formed
-  pub unfaulted_well_formed : book_fault E book ≡ Absent → WellFormed E book
+  pub unfaulted_well_formed : book_fault E book ≡ Ok tt → WellFormed E book
   unfolding book_fault
   unfaulted_well_formed e =
       let absent = first_of_absent (book_rules E book) e in
@@ -88,10 +58,10 @@ module _ (E : ℕ) (book : List ℕ) where
       }
 
   -- a well-formed one has none
-  pub well_formed_unfaulted : WellFormed E book → book_fault E book ≡ Absent
+  pub well_formed_unfaulted : WellFormed E book → book_fault E book ≡ Ok tt
   unfolding book_fault
   well_formed_unfaulted w =
-      let each : (i : ℕ) → i < window_count book → window_fault E book i ≡ Absent =
+      let each : (i : ℕ) → i < window_count book → window_fault E book i ≡ Ok tt =
       λ i l. rw (lt-ltb _ _ (w.event_below i l), lt-ltb _ _ (w.end_after i l)) in
       rw (
         right_shows (length book) w.right_length,
@@ -171,7 +141,7 @@ module _ (E : ℕ) (book : List ℕ) where
       let length_fault = unless (length_rule (length book)) WrongBook (length book) in
       let windows_fault = first_among (window_fault E book) (window_count book) in
       finds_same (first_of (length_fault ∷ windows_fault ∷ [])) breaks_says breaks_shows
-      (finds_either length_fault (windows_fault or_else Absent)
+      (finds_either length_fault (windows_fault or_else Ok tt)
       (finds_unless (length_rule (length book)) WrongBook (length book) _ (wrong_says _) (wrong_shows _))
       (λ e. finds_last (Among Window (window_count book)) windows_fault
       (finds_windows (right_says _ (unless_holds _ _ _ e))))

@@ -3,8 +3,8 @@ use Rattle.std.specs.Prelude.{ℕ, ◌≡◌, refl, true, false, List, [], ◌�
 use Rattle.fields.specs.Fields.{bytes32, field16, field32, joined}
 use Rattle.refusals.specs.FirstFault.{unless, first_among}
 use Rattle.refusals.specs.declared.rule.Rule.TheVariants.{WrongBook}
-use Rattle.refusals.specs.declared.refusal.FirstFault.{FirstFault}
-use Rattle.refusals.specs.declared.refusal.FirstFault.TheVariants.{Absent}
+use Rattle.refusals.specs.FirstFault.{FirstFault}
+use Rattle.std.specs.Prelude.{Ok}
 use Rattle.work_windows.specs.BookRules.{book_fault}
 use Rattle.work_windows.specs.OutOfService.{out_among, out_of_service}
 use Rattle.work_windows.specs.Sheet.{sheet_with, written_sheet}
@@ -51,7 +51,7 @@ pub faults : map (book_fault 2)
     ∷ (window 1 7 7 ++ window 2 0 1)
     ∷ (window 2 0 1 ++ (0 ∷ []))
     ∷ [])
-    ≡ Absent ∷ Absent ∷ at 9 ∷ at 11 ∷ at 2570 ∷ at 0 ∷ at 6 ∷ at 6 ∷ at 0 ∷ at 6 ∷ at 11 ∷ []
+    ≡ Ok tt ∷ Ok tt ∷ at 9 ∷ at 11 ∷ at 2570 ∷ at 0 ∷ at 6 ∷ at 6 ∷ at 0 ∷ at 6 ∷ at 11 ∷ []
 unfolding book_fault first_among field16 field32
 faults = refl
 

@@ -13,13 +13,13 @@ use Rattle.theory.proofs.RoundingMeaning.{rounded_whole, carry_whole}
 use Rattle.rounding.specs.Ends.{enclosure}
 use Rattle.rounding.proofs.Marks.{same_ends}
 use Rattle.opinion_sheet.specs.Format.{event_count, unit}
-use Rattle.opinion_sheet.specs.Cut.{Level}
+use Rattle.opinion_sheet.specs.Cut.{IsLevel}
 use Rattle.opinion_sheet.specs.EntryRules.{entry_of}
 use Rattle.opinion_sheet.specs.EventCut.{cut_at}
 use Rattle.opinion_sheet.specs.declared.entry.Entry.TheVariants as entry
 use Rattle.work_windows.specs.Sheet.{Written}
 
-module _ (U k n : ℕ) (positive : 0 < U) (level : Level k n) where
+module _ (U k n : ℕ) (positive : 0 < U) (level : IsLevel k n) where
   -- four numbers U
   abbrev four : Trapezoid
   four = record { den = U; a = U; b = U; c = U; d = U }
@@ -49,7 +49,7 @@ module _ (U k n : ℕ) (positive : 0 < U) (level : Level k n) where
 
 -- Of an event that is out of service, in the sheet of the hour.
 module _ (sheet : List ℕ) (out : ℕ → Bool) (after : List ℕ) (w : Written sheet out after) where
-  pub certain_cut : (e : ℕ) → e < event_count sheet → out e ≡ true → (k n : ℕ) → Level k n
+  pub certain_cut : (e : ℕ) → e < event_count sheet → out e ≡ true → (k n : ℕ) → IsLevel k n
       → cut_at (unit after) after e k n ≡ enclosure (λ w. start (unit after))
   certain_cut e l o k n level =
       let read : entry_of after e ≡ entry.Numbers (record { a = billion; b = billion; c = billion; d = billion }) =

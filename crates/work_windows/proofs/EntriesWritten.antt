@@ -23,23 +23,20 @@ abbrev pub also : (ℕ → Bool) → ℕ → ℕ → Bool
 also out e x = out x || eqb e x
 
 module _ (sheet : List ℕ) where
+  -- the entry of an event, by whether it is out of service
+  abbrev pub entry_by : ℕ → Bool → List ℕ
+  entry_by e b = cond b (certain_entry (unit sheet)) (take 17 (drop (entry_at sheet e) sheet))
+
   -- only which of the first n events are out of service counts
   pub entries_alike : (out other : ℕ → Bool) (n : ℕ) → ((x : ℕ) → x < n → out x ≡ other x)
       → written_entries sheet out n ≡ written_entries sheet other n
   entries_alike out other n h =
       joined_alike (written_entry sheet out) (written_entry sheet other) n
-      (λ x l. ap (λ (b : Bool). entry_by x b) (h x l))
-    where
-      entry_by : ℕ → Bool → List ℕ
-      entry_by e b = cond b (certain_entry (unit sheet)) (take 17 (drop (entry_at sheet e) sheet))
+      (λ x l. ap (entry_by x) (h x l))
 
   -- where none is, they are as held
   pub entries_held : (n : ℕ) → written_entries sheet (λ x. false) n ≡ take (17 * n) (drop header_length sheet)
   entries_held n = joined_parts sheet 26 17 n
-
-  -- the entry of an event, by whether it is out of service
-  abbrev pub entry_by : ℕ → Bool → List ℕ
-  entry_by e b = cond b (certain_entry (unit sheet)) (take 17 (drop (entry_at sheet e) sheet))
 
   module _ (formed : length sheet ≡ required_length sheet) where
     entry_by_long : (b : Bool) (e : ℕ) → e < event_count sheet → length (entry_by e b) ≡ 17

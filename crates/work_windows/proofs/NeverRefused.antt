@@ -5,10 +5,11 @@ use mathlib.Core.List.{List}
 use native.Mathlib.Omega.{arith}
 use lib.ListN.{length, drop, length-append}
 use lib.Seq.{length-take-le}
-use Rattle.refusals.specs.FirstFault.{unless, first_of}
+use borrow.Author.Tests.{le-leb}
+use Rattle.refusals.specs.FirstFault.{unless, first_of, judged_by}
 use Rattle.refusals.specs.declared.rule.Rule.TheVariants.{OtherTree}
-use Rattle.refusals.specs.declared.refusal.FirstFault.{FirstFault}
-use Rattle.refusals.specs.declared.refusal.FirstFault.TheVariants.{Absent}
+use Rattle.refusals.specs.FirstFault.{FirstFault}
+use Rattle.std.specs.Prelude.{Ok}
 use Rattle.refusals.proofs.FirstFault.{AllAbsent, absent_first_of, both_absent, first_of_absent, first_of_append}
 use Rattle.tree_file.specs.Format.{node_count}
 use Rattle.tree_file.specs.Tallies.{event_count}
@@ -20,11 +21,9 @@ use Rattle.opinion_sheet.specs.declared.judgement.Counts.{Counts as SheetCounts}
 use Rattle.opinion_sheet.proofs.Accepted.{accepted_well_formed}
 use Rattle.opinion_sheet.proofs.HeaderKept.{same_counts}
 use Rattle.evaluation.specs.Slices.{Slices}
-use Rattle.monitor.specs.Standing.{held_tree, held_sheet, sheet_changed, other_tree, fitting, level_rules}
-use Rattle.monitor.specs.Question.{outcome_by, outcome_of, question_rules, report_of}
+use Rattle.monitor.specs.Standing.{held_tree, held_sheet, changed, sheet_changed, other_tree, fitting, level_rules}
+use Rattle.monitor.specs.Question.{outcome_of, question_rules, report_of}
 use Rattle.monitor.specs.declared.state.State.{State}
-use Rattle.monitor.specs.declared.question.Outcome.TheVariants.{Answered}
-use Rattle.monitor.proofs.Standing.{changed_absent}
 use Rattle.monitor.proofs.Ready.{unchanged}
 use Rattle.work_windows.specs.OutOfService.{out_of_service}
 use Rattle.work_windows.specs.Sheet.{Written, written_sheet}
@@ -33,7 +32,7 @@ use Rattle.work_windows.proofs.SheetWritten.{sheet_front, sheet_means}
 use Rattle.work_windows.proofs.Accepted.{written_unfaulted}
 
 module _ (state : State) (tree_store sheet_store book : List ℕ) (k n hour : ℕ) (buffer : List ℕ) (s : Slices)
-    (none : first_of (hour_rules state tree_store sheet_store book k n hour buffer s) ≡ Absent) where
+    (none : first_of (hour_rules state tree_store sheet_store book k n hour buffer s) ≡ Ok tt) where
   -- the two files held, the sheet of the hour, and the buffer that it is written to
   abbrev tree : List ℕ
   tree = held_tree state tree_store
@@ -51,14 +50,14 @@ module _ (state : State) (tree_store sheet_store book : List ℕ) (k n hour : �
   lent = lent_rules (event_count tree) (node_count tree) state.sheet_len book (length buffer) s
 
   -- no rule of the level and the pair is broken, and none of what is lent
-  parts : (first_of (level_rules state tree_store sheet_store k n) ≡ Absent) × (first_of lent ≡ Absent)
+  parts : (first_of (level_rules state tree_store sheet_store k n) ≡ Ok tt) × (first_of lent ≡ Ok tt)
   parts = both_absent _ _ (sym (first_of_append (level_rules state tree_store sheet_store k n) lent) ∙ none)
 
   level_absent : AllAbsent (level_rules state tree_store sheet_store k n)
   level_absent = first_of_absent (level_rules state tree_store sheet_store k n) parts.0
 
   -- the held sheet is inside its store and without a fault
-  held : (state.sheet_len ≤ length sheet_store) × (sheet_fault sheet ≡ Absent)
+  held : (state.sheet_len ≤ length sheet_store) × (sheet_fault sheet ≡ Ok tt)
   held = unchanged 1 sheet_fault state.sheet_len sheet_store level_absent.1.1.1.1.0
 
   sheet_formed : WellFormed sheet
@@ -76,12 +75,12 @@ module _ (state : State) (tree_store sheet_store book : List ℕ) (k n hour : �
   front = sheet_front sheet sheet_formed.header.length_value (out_of_service book hour) _ sheet_length _
 
   -- it has not changed, for monitor,
-  same_sheet : sheet_changed state after ≡ Absent
+  same_sheet : sheet_changed state after ≡ Ok tt
+  unfolding changed
   same_sheet =
       let inside : state.sheet_len ≤ length after =
       omega (arith, length-append written (drop state.sheet_len buffer), means.length_kept, sheet_length) in
-      changed_absent 1 sheet_fault state.sheet_len after inside
-      (ap sheet_fault front ∙ written_unfaulted sheet (out_of_service book hour) written means sheet_formed)
+      rw (le-leb _ _ inside, ap sheet_fault front ∙ written_unfaulted sheet (out_of_service book hour) written means sheet_formed)
 
   -- and is for the same tree
   same_tree : other_tree tree (held_sheet state after) ≡ other_tree tree sheet
@@ -91,7 +90,7 @@ module _ (state : State) (tree_store sheet_store book : List ℕ) (k n hour : �
       (same_counts sheet written means.header_kept)
 
   -- no rule of the question is broken
-  question_unfaulted : first_of (question_rules state tree_store after k n s) ≡ Absent
+  question_unfaulted : first_of (question_rules state tree_store after k n s) ≡ Ok tt
   question_unfaulted =
       let level = level_absent in
       let short = (first_of_absent lent parts.1).1.1.0 in
@@ -107,9 +106,9 @@ module _ (state : State) (tree_store sheet_store book : List ℕ) (k n hour : �
       )
 
   -- so the question is answered, with the report of the hour's sheet
-  pub hour_answered : outcome_of state tree_store after k n s ≡ Answered (report_of (unit written) tree written k n)
+  pub hour_answered : outcome_of state tree_store after k n s ≡ Ok (report_of (unit written) tree written k n)
   unfolding outcome_of
   hour_answered =
       let held = held_sheet state after in
-      ap (λ (f : FirstFault). outcome_by f (report_of (unit held) tree held k n)) question_unfaulted
-      ∙ ap (λ (x : List ℕ). Answered (report_of (unit x) tree x k n)) front
+      ap (λ (f : FirstFault). judged_by f (report_of (unit held) tree held k n)) question_unfaulted
+      ∙ ap (λ (x : List ℕ). Ok (report_of (unit x) tree x k n)) front

@@ -1,58 +1,35 @@
--- The reply at an hour, with the buffer and the slices after it, by what the judging finds: one law for each return.
-use Prim.Native.Nat.{ℕ, ◌≤◌, ◌<◌}
+-- What a question at an hour comes to, with the buffer and the slices after it, by what the judging finds: one law for each return.
+use Prim.Native.Nat.{ℕ, ◌≤◌}
 use mathlib.Core.Path.{◌≡◌, refl, sym, ap, subst, ◌∙◌}
 use mathlib.Core.List.{List, ◌++◌}
 use native.Mathlib.Omega.{arith}
 use lib.ListN.{length, take, drop}
 use lib.Seq.{length-take-le}
-use borrow.Author.Tests.{le-leb, lt-leb, leb-true}
+use borrow.Author.Tests.{leb-true}
 use Rattle.theory.specs.Unit.{billion}
-use Rattle.refusals.specs.FirstFault.{◌or_else◌, first_of}
-use Rattle.refusals.specs.declared.rule.Rule.TheVariants.{ShortBuffer}
+use Rattle.refusals.specs.FirstFault.{FirstFault, ◌or_else◌, first_of}
 use Rattle.refusals.specs.declared.refusal.Refusal.{Refusal}
-use Rattle.refusals.specs.declared.refusal.FirstFault.{FirstFault}
-use Rattle.refusals.specs.declared.refusal.FirstFault.TheVariants.{Found, Absent}
-use Rattle.refusals.proofs.FirstFault.{first_of_absent, first_of_append, or_else_absent, unless_holds}
+use Rattle.std.specs.Prelude.{Ok, Err}
+use Rattle.refusals.proofs.FirstFault.{accepted_absent, first_of_absent, first_of_append}
+use Rattle.refusals.proofs.FirstFault.{refused_found, unless_holds}
 use Rattle.tree_file.specs.Format.{node_count}
 use Rattle.tree_file.specs.Tallies.{event_count}
 use Rattle.tree_file.specs.declared.judgement.Counts.{Counts}
 use Rattle.evaluation.specs.Slices.{Slices}
-use Rattle.monitor.specs.Standing.{held_tree, held_sheet, level_rules, short_slice, standing_of}
-use Rattle.monitor.specs.Question.{reply_of, slices_left}
+use Rattle.monitor.specs.Standing.{held_tree, held_sheet, level_rules, standing_of}
+use Rattle.monitor.specs.Question.{outcome_of, reply_of, slices_left}
 use Rattle.monitor.specs.Promise.{PromisesKept}
 use Rattle.monitor.specs.declared.state.State.{State}
-use Rattle.monitor.specs.declared.held.Standing.{Standing}
-use Rattle.monitor.specs.declared.held.Standing.TheVariants as standing
-use Rattle.monitor.specs.declared.question.Outcome.TheVariants.{Refused}
+use Rattle.std.specs.Prelude.{Result}
+use Rattle.monitor.specs.declared.question.Report.{Report}
 use Rattle.monitor.specs.declared.question.Reply.{Reply}
-use Rattle.monitor.proofs.Standing.{ready_absent, standing_found}
 use Rattle.monitor.proofs.Ready.{ReadyPair, ready_pair}
-use Rattle.work_windows.specs.BookRules.{book_fault}
 use Rattle.work_windows.specs.Sheet.{written_sheet}
-use Rattle.work_windows.specs.Question.{lent_rules, hour_rules, written_buffer, hour_reply}
+use Rattle.work_windows.specs.Question.{lent_rules, hour_rules, written_buffer, hour_outcome}
 use Rattle.work_windows.specs.Question.{buffer_left, hour_slices}
 use Rattle.work_windows.specs.Writing.{Writable}
 use Rattle.work_windows.proofs.BookJudged.{unfaulted_well_formed}
 use Rattle.work_windows.proofs.SheetWritten.{sheet_front}
-
--- What is lent, by what each part of its judging finds.
-module _ (E N held : ℕ) (book : List ℕ) (room : ℕ) (s : Slices) (found : FirstFault)
-    (judged : found ≡ book_fault E book) where
-  -- 29
-  pub lent_book : (r : Refusal) → found ≡ Found r → Found r ≡ first_of (lent_rules E N held book room s)
-  lent_book r e = rw (sym judged ∙ e)
-
-  module _ (none : found ≡ Absent) where
-    -- 30
-    pub lent_buffer : room < held
-        → Found (record { rule = ShortBuffer; place = 0 }) ≡ first_of (lent_rules E N held book room s)
-    lent_buffer l = rw (sym judged ∙ none, lt-leb held room l)
-
-    -- 25, or nothing
-    pub lent_slices : held ≤ room → (short : FirstFault) → short ≡ short_slice N s
-        → short ≡ first_of (lent_rules E N held book room s)
-    lent_slices l short e =
-        rw (sym judged ∙ none, le-leb held room l, or_else_absent (short_slice N s)) e
 
 module _ (state : State) (tree_store sheet_store book : List ℕ) (k n hour : ℕ) (buffer : List ℕ) (s : Slices) where
   -- the two files held, and the sheet of the hour
@@ -65,13 +42,13 @@ module _ (state : State) (tree_store sheet_store book : List ℕ) (k n hour : �
   abbrev written : List ℕ
   written = written_sheet sheet book hour
 
-  -- what is promised of a reply, of the buffer and of the slices then
-  abbrev pub AllPromised : Reply → List ℕ → Slices → Type 0
-  AllPromised reply after left =
-      (reply ≡ hour_reply state tree_store sheet_store book k n hour buffer s)
+  -- what is promised of an outcome, of the buffer and of the slices then
+  abbrev pub AllPromised : Result Report Refusal → List ℕ → Slices → Type 0
+  AllPromised o after left =
+      (o ≡ hour_outcome state tree_store sheet_store book k n hour buffer s)
       × ((after ≡ buffer_left state tree_store sheet_store book k n hour buffer s)
       × ((left ≡ hour_slices state tree_store sheet_store book k n hour buffer s)
-      × PromisesKept billion reply.outcome tree written k n left))
+      × PromisesKept billion o tree written k n left))
 
   -- the first fault: that of the level and the pair, or else of what is lent
   abbrev fault : FirstFault
@@ -87,19 +64,18 @@ module _ (state : State) (tree_store sheet_store book : List ℕ) (k n hour : �
       ∙ ap (λ (f : FirstFault). f or_else lent) e
 
   -- a refusal leaves the buffer and every slice as they were
-  refused_all : (r : Refusal) → fault ≡ Found r
-      → AllPromised (record { state = state; outcome = Refused r }) buffer s
-  unfolding hour_reply buffer_left hour_slices
-  refused_all r e = rw e (refl, (refl, (refl, tt)))
+  refused_all : (o : Result Report Refusal) (r : Refusal) → o ≡ Err r → fault ≡ Err r → AllPromised o buffer s
+  unfolding hour_outcome buffer_left hour_slices
+  refused_all o r q e = rw (q, e) (refl, (refl, (refl, tt)))
 
-  module _ (found : Standing) (e : found ≡ standing_of state tree_store sheet_store k n) where
+  module _ (found : Result Counts Refusal) (e : found ≡ standing_of state tree_store sheet_store k n) where
     -- refused by the judging: 13, 21 to 24
-    pub refused_by_judging : (r : Refusal) → found ≡ standing.Refused r
-        → AllPromised (record { state = state; outcome = Refused r }) buffer s
+    pub refused_by_judging : (r : Refusal) → found ≡ Err r → (o : Result Report Refusal) → o ≡ Err r
+        → AllPromised o buffer s
     unfolding standing_of
-    refused_by_judging r q = refused_all r (fault_is (Found r) (standing_found _ _ r (sym e ∙ q)))
+    refused_by_judging r q o p = refused_all o r p (fault_is (Err r) (refused_found _ _ r (sym e ∙ q)))
 
-    module _ (counts : Counts) (q : found ≡ standing.Ready counts) where
+    module _ (counts : Counts) (q : found ≡ Ok counts) where
       -- what a pair that is ready is
       ready : ReadyPair state tree_store sheet_store k n counts
       ready = ready_pair state tree_store sheet_store k n counts (sym e ∙ q)
@@ -120,19 +96,19 @@ module _ (state : State) (tree_store sheet_store book : List ℕ) (k n hour : �
 
         ready_fault : (f : FirstFault) → found_lent ≡ f → fault ≡ f
         unfolding standing_of
-        ready_fault f t = fault_is Absent (ready_absent _ _ counts (sym e ∙ q)).0 ∙ lent_is f t
+        ready_fault f t = fault_is (Ok tt) (accepted_absent _ _ counts (sym e ∙ q)).0 ∙ lent_is f t
 
         -- refused by 29, 30 or 25
-        pub refused_by_lent : (r : Refusal) → found_lent ≡ Found r
-            → AllPromised (record { state = state; outcome = Refused r }) buffer s
-        refused_by_lent r t = refused_all r (ready_fault (Found r) t)
+        pub refused_by_lent : (r : Refusal) → found_lent ≡ Err r → (o : Result Report Refusal) → o ≡ Err r
+            → AllPromised o buffer s
+        refused_by_lent r t o p = refused_all o r p (ready_fault (Err r) t)
 
-        module _ (t : found_lent ≡ Absent) where
+        module _ (t : found_lent ≡ Ok tt) where
           -- what writing the hour's sheet asks
           pub writable : Writable sheet book buffer
           writable =
               let absent =
-              first_of_absent (lent_rules (event_count tree) _ state.sheet_len book _ s) (lent_is Absent t) in
+              first_of_absent (lent_rules (event_count tree) _ state.sheet_len book _ s) (lent_is (Ok tt) t) in
               let formed = unfaulted_well_formed (event_count tree) book absent.0 in
               let room : state.sheet_len ≤ length buffer = leb-true _ _ (unless_holds _ _ _ absent.1.0) in
               record {
@@ -156,11 +132,11 @@ module _ (state : State) (tree_store sheet_store book : List ℕ) (k n hour : �
               → reply ≡ reply_of state tree_store after k n s → (left : Slices)
               → left ≡ slices_left state tree_store after k n s
               → PromisesKept billion reply.outcome tree (held_sheet state after) k n left
-              → AllPromised reply after left
-          unfolding hour_reply buffer_left hour_slices
+              → AllPromised reply.outcome after left
+          unfolding hour_outcome buffer_left hour_slices
           answered_all after w reply er left es kept =
-              rw (ready_fault Absent t) (
-                er ∙ ap (λ (b : List ℕ). reply_of state tree_store b k n s) (buffer_is after w),
+              rw (ready_fault (Ok tt) t) (
+                ap (λ (x : Reply). x.outcome) er ∙ ap (λ (b : List ℕ). outcome_of state tree_store b k n s) (buffer_is after w),
                 (
                   buffer_is after w,
                   (

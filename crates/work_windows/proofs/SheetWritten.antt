@@ -33,17 +33,6 @@ past_drop front xs m n e = rw (← e) (drop-append-add front xs n)
 past_byte : (front xs : List ℕ) (m n : ℕ) → length front ≡ m → byte (front ++ xs) (m + n) ≡ byte xs n
 past_byte front xs m n e = rw (← e) (get_or-append-add front xs n 0)
 
-module _ (U : ℕ) (book : List ℕ) (hour : ℕ) (buffer : List ℕ) where
-  -- the buffer after no windows, and after one more
-  pub written_none : windows_written U book hour 0 buffer ≡ buffer
-  unfolding windows_written
-  written_none = refl
-
-  pub written_next : (n : ℕ) → windows_written U book hour (suc n) buffer
-      ≡ window_written U book hour n (windows_written U book hour n buffer)
-  unfolding windows_written
-  written_next n = refl
-
 module _ (sheet : List ℕ) where
   -- only which of the sheet's events are out of service counts
   pub sheet_alike : (out other : ℕ → Bool) → ((x : ℕ) → x < event_count sheet → out x ≡ other x)
@@ -173,13 +162,12 @@ module _ (sheet : List ℕ) where
       -- the windows written one after the other
       pub windows_are : (n : ℕ) → ((i : ℕ) → i < n → window_event book i < event_count sheet) → (rest : List ℕ)
           → windows_written (unit sheet) book hour n (sheet ++ rest) ≡ sheet_with sheet (out_among book hour n) ++ rest
+      unfolding windows_written
       windows_are zero below rest =
-          written_none (unit sheet) book hour (sheet ++ rest)
-          ∙ ap (λ (xs : List ℕ). xs ++ rest)
+          ap (λ (xs : List ℕ). xs ++ rest)
           (sym (sheet_alike (out_among book hour 0) (λ x. false) (λ x l. out_none book hour x) ∙ sheet_held))
       windows_are (suc n) below rest =
-          written_next (unit sheet) book hour (sheet ++ rest) n
-          ∙ ap (window_written (unit sheet) book hour n) (windows_are n (λ i l. below i (omega arith)) rest)
+          ap (window_written (unit sheet) book hour n) (windows_are n (λ i l. below i (omega arith)) rest)
           ∙ go (open_at book hour n) refl
         where
           before : ℕ → Bool

@@ -3,6 +3,7 @@
 -- nothing: no field is read past the windows that the book's length gives.
 use Rattle.std.specs.Prelude.{ℕ, ◌+◌, ◌*◌, ◌/◌, Bool, ◌&&◌, List, length, leb, ltb}
 use Rattle.fields.specs.Fields.{field16, field32}
+use Rattle.work_windows.specs.declared.book.Window.{Window}
 
 -- The length in bytes of a window, and the most windows of a book.
 abbrev pub window_length : ℕ
@@ -39,6 +40,13 @@ first_hour book i = field32 book (first_place i)
 abbrev pub end_hour : List ℕ → ℕ → ℕ
 end_hour book i = field32 book (end_place i)
 
+-- The fields of a window, as they are read.
+abbrev pub window_at : List ℕ → ℕ → Window
+window_at book i = record { event = window_event book i; first = first_hour book i; end = end_hour book i }
+
 -- A window is open at an hour: the first hour counts, the end hour does not.
+abbrev pub open_in : Window → ℕ → Bool
+open_in window hour = leb window.first hour && ltb hour window.end
+
 abbrev pub open_at : List ℕ → ℕ → ℕ → Bool
-open_at book hour i = leb (first_hour book i) hour && ltb hour (end_hour book i)
+open_at book hour i = open_in (window_at book i) hour

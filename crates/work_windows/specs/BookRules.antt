@@ -1,9 +1,8 @@
 -- The rules of a book, all of them refusal 29: its length, then its windows in their order, of each first the event and
 -- then the end.
 use Rattle.std.specs.Prelude.{ℕ, ◌%◌, Bool, ◌&&◌, List, [], ◌∷◌, length, leb, ltb, eqb}
-use Rattle.refusals.specs.FirstFault.{unless, first_of, first_among}
 use Rattle.refusals.specs.declared.rule.Rule.TheVariants.{WrongBook}
-use Rattle.refusals.specs.declared.refusal.FirstFault.{FirstFault}
+use Rattle.refusals.specs.FirstFault.{FirstFault, unless, first_of, first_among}
 use Rattle.work_windows.specs.Book.{window_length, most_book, window_count, event_place, end_place, window_event}
 use Rattle.work_windows.specs.Book.{first_hour, end_hour}
 

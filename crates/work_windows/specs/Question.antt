@@ -1,18 +1,17 @@
 -- What a question at an hour answers, and what it leaves in the lent buffer and in the work slices. Where no rule is
--- broken, the answer and the slices are those of monitor's `question` with the buffer, as it is written, for the store
--- of the sheet: `reply_of` and `slices_left` of monitor.
-use Rattle.std.specs.Prelude.{ℕ, List, [], ◌∷◌, ◌++◌, length, drop, leb}
-use Rattle.refusals.specs.FirstFault.{unless, first_of}
+-- broken, the outcome and the slices are those of monitor's `question` with the buffer, as it is written, for the store
+-- of the sheet: `outcome_of` and `slices_left` of monitor.
+use Rattle.std.specs.Prelude.{ℕ, List, [], ◌∷◌, ◌++◌, length, drop, leb, Result, Ok, Err}
 use Rattle.refusals.specs.declared.rule.Rule.TheVariants.{ShortBuffer}
-use Rattle.refusals.specs.declared.refusal.FirstFault.{FirstFault}
-use Rattle.refusals.specs.declared.refusal.FirstFault.TheVariants.{Found, Absent}
+use Rattle.refusals.specs.FirstFault.{FirstFault, unless, first_of}
+use Rattle.refusals.specs.declared.refusal.Refusal.{Refusal}
 use Rattle.tree_file.specs.Format.{node_count}
 use Rattle.tree_file.specs.Tallies.{event_count}
 use Rattle.evaluation.specs.Slices.{Slices}
 use Rattle.monitor.specs.Standing.{held_tree, held_sheet, level_rules, short_slice}
-use Rattle.monitor.specs.Question.{reply_of, slices_by, slices_left}
+use Rattle.monitor.specs.Question.{outcome_of, slices_by, slices_left}
 use Rattle.monitor.specs.declared.state.State.{State}
-use Rattle.monitor.specs.declared.question.Outcome.TheVariants.{Refused}
+use Rattle.monitor.specs.declared.question.Report.{Report}
 use Rattle.monitor.specs.declared.question.Reply.{Reply}
 use Rattle.work_windows.specs.BookRules.{book_fault}
 use Rattle.work_windows.specs.Sheet.{written_sheet}
@@ -25,15 +24,15 @@ short_buffer held room = unless (leb held room) ShortBuffer 0
 abbrev pub lent_rules : ℕ → ℕ → ℕ → List ℕ → ℕ → Slices → List FirstFault
 lent_rules E N held book room s = book_fault E book ∷ short_buffer held room ∷ short_slice N s ∷ []
 
--- Refused by the first fault, with the state as it was, or replied.
-abbrev pub reply_by : FirstFault → State → Reply → Reply
-reply_by (Found r) state reply = record { state = state; outcome = Refused r }
-reply_by Absent state reply = reply
+-- Refused by the first fault, or what the question comes to.
+abbrev pub outcome_by : FirstFault → Result Report Refusal → Result Report Refusal
+outcome_by (Err r) outcome = Err r
+outcome_by (Ok tt) outcome = outcome
 
 -- A lent slice after: as it was where the question is refused.
 abbrev pub left_by : FirstFault → List ℕ → List ℕ → List ℕ
-left_by (Found r) before after = before
-left_by Absent before after = after
+left_by (Err r) before after = before
+left_by (Ok tt) before after = after
 
 module _ (state : State) (tree_store sheet_store book : List ℕ) (k n hour : ℕ) (buffer : List ℕ) (s : Slices) where
   -- the two files held
@@ -53,9 +52,13 @@ module _ (state : State) (tree_store sheet_store book : List ℕ) (k n hour : �
   abbrev pub written_buffer : List ℕ
   written_buffer = written_sheet sheet book hour ++ drop state.sheet_len buffer
 
-  -- the first refusal, or what monitor's `question` answers with the buffer for the store of the sheet
-  unfoldable pub hour_reply : Reply
-  hour_reply = reply_by (first_of hour_rules) state (reply_of state tree_store written_buffer k n s)
+  -- the first refusal, or what monitor's `question` comes to with the buffer for the store of the sheet
+  unfoldable pub hour_outcome : Result Report Refusal
+  hour_outcome = outcome_by (first_of hour_rules) (outcome_of state tree_store written_buffer k n s)
+
+  -- the state comes back as it was
+  abbrev pub hour_reply : Reply
+  hour_reply = record { state = state; outcome = hour_outcome }
 
   -- the hour's sheet at the front of the buffer, the rest as it was
   unfoldable pub buffer_left : List ℕ

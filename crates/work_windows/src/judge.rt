@@ -1,12 +1,13 @@
 // Judges what is lent for a question at an hour: refusals 29, 30 and 25.
 ghost use Rattle.std.specs.Prelude.{◌≡◌};
 ghost use Rattle.refusals.specs.FirstFault.{first_of};
-ghost use Rattle.evaluation.specs.Slices.{slices};
+ghost use Rattle.evaluation.specs.Slices.{contents};
 ghost use Rattle.work_windows.specs.Question.{lent_rules};
 
 use crate::book::judge_book;
+use evaluation::slices::WorkSlices;
 use monitor::judge::judge_slices;
-use refusals::refusal::{FirstFault, Refusal};
+use refusals::refusal::Refusal;
 use refusals::rule::Rule;
 use tree_file::judgement::Counts;
 
@@ -16,22 +17,14 @@ pub fn judge_lent(
     sheet_len: usize,
     book: &[u8],
     room: usize,
-    lower: &[u32],
-    upper: &[u32],
-    marks: &[u8],
-) -> FirstFault
+    slices: &WorkSlices,
+) -> Result<(), Refusal>
     ensures { result ≡ first_of (lent_rules counts.events counts.nodes sheet_len book.now room
-        (slices lower.now upper.now marks.now)) }
+        (contents slices.now)) }
 {
-    let found = judge_book(book, counts.events);
-    if let FirstFault::Found(refusal) = found {
-        return FirstFault::Found(refusal);
-    }
+    judge_book(book, counts.events)?;
     if room < sheet_len {
-        return FirstFault::Found(Refusal {
-            rule: Rule::ShortBuffer,
-            place: 0,
-        });
+        return Err(Rule::ShortBuffer.at(0));
     }
-    judge_slices(counts.nodes, lower, upper, marks)
+    judge_slices(counts.nodes, slices)
 }

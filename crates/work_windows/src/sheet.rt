@@ -1,32 +1,27 @@
 // The sheet of an hour, written to a lent buffer.
-ghost use Rattle.std.specs.Prelude.{◌≡◌, ◌++◌, ◌≤◌, ◌<◌, length, drop};
+ghost use Rattle.std.specs.Prelude.{◌≡◌, ◌++◌, length, drop};
 ghost use Rattle.theory.specs.Unit.{billion};
-ghost use Rattle.work_windows.specs.Book.{window_count, window_event};
-ghost use Rattle.work_windows.specs.Sheet.{written_sheet};
+ghost use Rattle.work_windows.specs.Book.{window_count};
+ghost use Rattle.work_windows.specs.Sheet.{certain_entry, written_sheet};
 ghost use Rattle.work_windows.specs.Writing.{EntriesInside, EntryInside, Writable};
-ghost use Rattle.work_windows.specs.Writing.{window_written, windows_written, with_certain};
+ghost use Rattle.work_windows.specs.Writing.{windows_written, with_certain};
 
-use crate::book::{WINDOW_LENGTH, is_open};
-use fields::fields::field16_at;
-
-// The lengths of a sheet's header and of an entry.
-const HEADER_LENGTH: usize = 26;
-
-const ENTRY_LENGTH: usize = 17;
-
-// The bytes of U, low byte first.
-const U0: u8 = 0;
-
-const U1: u8 = 202;
-
-const U2: u8 = 154;
-
-const U3: u8 = 59;
+use crate::book::{window_at, window_count};
+use fields::write::four_bytes;
+use opinion_sheet::format::{ENTRY_LENGTH, HEADER_LENGTH};
+use opinion_sheet::kind::EntryKind;
+use rounding::unit::UNIT;
 
 // The number entry (U, U, U, U): its kind, and four times U.
-const CERTAIN_ENTRY: [u8; 17] = [
-    0, U0, U1, U2, U3, U0, U1, U2, U3, U0, U1, U2, U3, U0, U1, U2, U3,
-];
+fn certain_entry() -> [u8; ENTRY_LENGTH]
+    ensures { result ≡ certain_entry billion }
+{
+    let numbers = [four_bytes(UNIT as u32); 4];
+    let mut entry = [0; ENTRY_LENGTH];
+    entry[0] = EntryKind::Numbers as u8;
+    entry[1..].copy_from_slice(numbers.as_flattened());
+    entry
+}
 
 // Puts an event at four numbers U, in the sheet at the front of the buffer.
 fn put_certain(event: usize, buffer: &mut [u8])
@@ -34,32 +29,20 @@ fn put_certain(event: usize, buffer: &mut [u8])
     ensures { buffer.new ≡ with_certain billion event buffer.old }
 {
     let place = HEADER_LENGTH + ENTRY_LENGTH * event;
-    byte_copy::copy(&CERTAIN_ENTRY, &mut buffer[place..]);
+    byte_copy::copy(&certain_entry(), &mut buffer[place..]);
 }
 
-// Puts the event of window i where it is open.
-fn put_window(book: &[u8], i: usize, hour: u32, buffer: &mut [u8])
-    requires i_bound { i < window_count book.now }
-    requires entry_inside { EntryInside (window_event book.now i) buffer.old }
-    ensures { buffer.new ≡ window_written billion book.now hour i buffer.old }
+// Puts the event of each window that is open, one after the other.
+#[tactic(auto, unfolding(crate::specs::Writing::windows_written))]
+fn put_windows(book: &[u8], hour: u32, buffer: &mut [u8])
+    requires { EntriesInside book.now (window_count book.now) buffer.old }
+    ensures { buffer.new ≡ windows_written billion book.now hour (window_count book.now) buffer.old }
 {
-    if !is_open(book, i, hour) {
-        return;
-    }
-    put_certain(field16_at(book, WINDOW_LENGTH * i), buffer);
-}
-
-// Puts the events of the first windows that are open, one after the other.
-fn put_windows(book: &[u8], count: usize, hour: u32, buffer: &mut [u8])
-    requires count_bound { count ≤ window_count book.now }
-    requires entries_inside { EntriesInside book.now count buffer.old }
-    ensures { buffer.new
-        ≡ windows_written billion book.now hour count buffer.old }
-{
-    let mut i = 0;
-    while i < count {
-        put_window(book, i, hour, buffer);
-        i += 1;
+    for i in 0..window_count(book) {
+        let window = window_at(book, i);
+        if window.is_open(hour) {
+            put_certain(window.event, buffer);
+        }
     }
 }
 
@@ -70,5 +53,5 @@ pub fn write_sheet(sheet: &[u8], book: &[u8], hour: u32, buffer: &mut [u8])
         ++ drop (length sheet.now) buffer.old }
 {
     byte_copy::copy(sheet, buffer);
-    put_windows(book, book.len() / WINDOW_LENGTH, hour, buffer);
+    put_windows(book, hour, buffer);
 }

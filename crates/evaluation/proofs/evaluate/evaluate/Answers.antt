@@ -2,8 +2,9 @@
 use Rattle.evaluation.proofs.Reporting.{events_stored, reported}
 use Rattle.evaluation.proofs.evaluate.evaluate.Goals as goal
 
-pub put_gates-requires-clause-events_stored : goal.put_gates-requires-clause-events_stored
-put_gates-requires-clause-events_stored c = (events_stored c.requires c.put_events.ensures).0
+pub put_gates-requires : goal.put_gates-requires
+put_gates-requires c = events_stored c.requires c.args.level.in_range c.put_events.ensures.value
 
-pub returns : goal.returns
-returns c = reported c.requires c.put_events.ensures c.put_gates.ensures
+pub returns-clause-value : goal.returns-clause-value
+returns-clause-value c =
+    reported c.requires c.args.level.in_range c.put_events.ensures.value c.put_gates.ensures.value

@@ -2,5 +2,5 @@
 use Rattle.evaluation.proofs.EventsTurn.{cut_asked}
 use Rattle.evaluation.proofs.events.put_event.Goals as goal
 
-pub cut_at-ends-requires : goal.cut_at-ends-requires
-cut_at-ends-requires c = cut_asked c.requires.evaluable c.requires.i_bound c.node_at-node.ensures c.in-Event.is
+pub cut_at-requires : goal.cut_at-requires
+cut_at-requires c = cut_asked c.requires.evaluable c.requires.i_bound c.in-Event.ensures

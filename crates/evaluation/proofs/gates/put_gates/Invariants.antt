@@ -1,15 +1,14 @@
 -- The phase over the places passed.
-use Prim.Native.Nat.{◌-◌}
 use Rattle.theory.specs.Unit.{billion}
-use Rattle.evaluation.specs.Slices.{slices}
+use Rattle.tree_file.specs.Format.{node_count}
+use Rattle.evaluation.specs.Slices.{contents, SameSlices}
 use Rattle.evaluation.specs.Phases.{gate_turn}
 use Rattle.evaluation.proofs.Turns.{Reached}
 use Rattle.evaluation.proofs.gates.put_gates.Given as goal
 
 abbrev pub invariant-loop-place : goal.invariant-loop-place
-invariant-loop-place l =
-    Reached (gate_turn billion l.tree) (slices l.initial.lower l.initial.upper l.initial.marks) l.nodes
-    (slices l.lower l.upper l.marks) l.place
-
-abbrev pub decreases-loop-place : goal.decreases-loop-place
-decreases-loop-place l = l.nodes - l.place
+invariant-loop-place l = record {
+  same_slices : SameSlices l.slices l.initial.slices;
+  reached : Reached (gate_turn billion l.tree) (contents l.initial.slices) (node_count l.tree)
+      (contents l.slices) l.place;
+}

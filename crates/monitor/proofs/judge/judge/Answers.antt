@@ -1,14 +1,19 @@
 -- A level out of range is refused first; in range, the pair's own refusals are left.
-use Rattle.std.proofs.Common.{sym, ◌∙◌}
+use Rattle.std.proofs.Common.{sym, ◌∙◌, ℕ, ◌≡◌, arith}
 use Rattle.monitor.proofs.Standing.{level_out_of_range, level_in_range}
+use Rattle.monitor.proofs.Ready.{level_ranged, no_level}
 use Rattle.monitor.proofs.judge.judge.Goals as goal
 
-pub returns-then-not-level_in_range : goal.returns-then-not-level_in_range
-returns-then-not-level_in_range c =
-    let out = sym c.level_in_range.ensures ∙ c.if-not-level_in_range.true in
-    c.refused.ensures ∙ sym (level_out_of_range _ _ _ _ _ out)
+pub returns-then-is_none : goal.returns-then-is_none
+returns-then-is_none c =
+    level_out_of_range _ _ _ _ _ _ c.at.ensures
+    (no_level _ _ (λ level.
+    let some = c.new.ensures.exactly.1 level in
+    let none = c.if-is_none.ensures in
+    let z : ◌≡◌ {A = ℕ} 0 1 = cc in
+    omega arith))
 
 pub returns : goal.returns
 returns c =
-    let within = sym c.level_in_range.ensures ∙ c.if-not-level_in_range.false in
+    let within = level_ranged _ _ (c.new.ensures.exactly.0 c.if-is_none.ensures) in
     c.judge_pair.ensures ∙ sym (level_in_range _ _ _ _ _ within)

@@ -1,8 +1,14 @@
 -- What the root's place holds is the report.
-use Rattle.monitor.proofs.Answer.{report_read}
+use Rattle.std.proofs.Common.{suc, ◌-◌}
+use Rattle.evaluation.proofs.Reporting.{left_long}
+use Rattle.monitor.proofs.Answer.{report_read, root_placed}
 use Rattle.monitor.proofs.question.answered.Goals as goal
+
+pub ends-ends-requires : goal.ends-ends-requires
+ends-ends-requires c =
+    root_placed _ _ _ _ _ c.requires.evaluable c.args.level.in_range _ c.evaluate.ensures.value _ c.requires.counts_value
 
 pub returns-clause-value : goal.returns-clause-value
 returns-clause-value c =
-    report_read _ _ _ _ _ _ c.requires.evaluable _ c.evaluate.ensures _ c.requires.events_value _
-    c.stored_ends-ends.ensures
+    report_read _ _ _ _ _ c.requires.evaluable c.args.level.in_range _ c.evaluate.ensures.value _ c.requires.counts_value _
+    c.ends-ends.ensures

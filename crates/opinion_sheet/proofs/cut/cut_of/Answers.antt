@@ -8,24 +8,24 @@ use Rattle.opinion_sheet.proofs.cut.cut_of.Goals as goal
 pub overflow_mul-low-3 : goal.overflow_mul-low-3
 overflow_mul-low-3 c =
     bounds.fits_64
-    (bounds.scaled_bounded _ _ _ _ c.requires.0 c.requires.1 _
-    (bounds.lower_bounded _ _ _ _ c.requires.0 c.requires.1))
+    (bounds.scaled_bounded _ _ _ _ c.requires c.args.level.in_range _
+    (bounds.lower_bounded _ _ _ _ c.requires c.args.level.in_range))
 
 pub overflow_mul-high-3 : goal.overflow_mul-high-3
 overflow_mul-high-3 c =
-    bounds.fits_64 (bounds.scaled_bounded _ _ _ _ c.requires.0 c.requires.1 _ (sub-le _ _))
+    bounds.fits_64 (bounds.scaled_bounded _ _ _ _ c.requires c.args.level.in_range _ (sub-le _ _))
 
 pub divided-lower-requires : goal.divided-lower-requires
 divided-lower-requires c = (
-  bounds.denominator_positive _ _ _ _ c.requires.0 c.requires.1,
-  bounds.top_units _ _ _ _ c.requires.0 c.requires.1 _
-      (bounds.lower_bounded _ _ _ _ c.requires.0 c.requires.1),
+  bounds.denominator_positive _ _ _ _ c.requires c.args.level.in_range,
+  bounds.top_units _ _ _ _ c.requires c.args.level.in_range _
+      (bounds.lower_bounded _ _ _ _ c.requires c.args.level.in_range),
 )
 
 pub divided-upper-requires : goal.divided-upper-requires
 divided-upper-requires c = (
-  bounds.denominator_positive _ _ _ _ c.requires.0 c.requires.1,
-  bounds.top_units _ _ _ _ c.requires.0 c.requires.1 _ (sub-le _ _),
+  bounds.denominator_positive _ _ _ _ c.requires c.args.level.in_range,
+  bounds.top_units _ _ _ _ c.requires c.args.level.in_range _ (sub-le _ _),
 )
 
 pub returns : goal.returns

@@ -1,14 +1,7 @@
--- One entry more is passed, or its fault is the first.
-use Rattle.std.proofs.Common.{sym, ◌∙◌, arith}
-use Rattle.refusals.proofs.FirstFault.{passed_none, passed_more, passed_found}
+-- The entry's fault is the first.
+use Rattle.std.proofs.Common.{arith}
+use Rattle.refusals.proofs.FirstFault.{passed_found}
 use Rattle.opinion_sheet.proofs.entry.judge_entries.Goals as goal
 
-pub loop-event-init : goal.loop-event-init
-loop-event-init c = passed_none _ _
-
-pub returns-in-Found : goal.returns-in-Found
-returns-in-Found c = passed_found c.loop-event.invariant (omega arith) (sym c.in-Found.ensures)
-
-pub loop-event-preserved : goal.loop-event-preserved
-loop-event-preserved c =
-    passed_more c.loop-event.invariant (omega arith) (sym c.judge_entry-found.ensures ∙ c.in_default.is)
+pub returns-in_err-judge_entry : goal.returns-in_err-judge_entry
+returns-in_err-judge_entry c = grind (arith, passed_found)

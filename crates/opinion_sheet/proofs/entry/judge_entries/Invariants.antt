@@ -1,5 +1,4 @@
 -- No entry passed has a fault.
-use Rattle.std.proofs.Common.{◌-◌}
 use Rattle.theory.specs.Unit.{billion}
 use Rattle.refusals.proofs.FirstFault.{Passed}
 use Rattle.opinion_sheet.specs.EntryRules.{entry_fault}
@@ -7,6 +6,3 @@ use Rattle.opinion_sheet.proofs.entry.judge_entries.Given as goal
 
 abbrev pub invariant-loop-event : goal.invariant-loop-event
 invariant-loop-event l = Passed (entry_fault billion l.file) l.events l.event
-
-abbrev pub decreases-loop-event : goal.decreases-loop-event
-decreases-loop-event l = l.events - l.event

@@ -1,13 +1,34 @@
--- At first all lines are still to be put, and with each turn one less.
-use Rattle.std.proofs.Common.{rules}
-use Rattle.printer.proofs.LevelsTurn.{count_fits, printing_starts, printing_goes}
+-- The question's refusal, or the header and, level by level, the lines.
+use Rattle.std.proofs.Common.{◌∙◌, arith}
+use Rattle.std.proofs.lemmas.Result.{err_from_is_err_and}
+use Rattle.printer.proofs.Lines.{levels_most, line_put, last_put}
+use Rattle.printer.proofs.Holding.{question_refused, question_answered, held_ready, header_put}
 use Rattle.printer.proofs.levels.put_levels.Goals as goal
 
-pub overflow_add-left : goal.overflow_add-left
-overflow_add-left c = search (rules, count_fits)
+pub returns-in_err-counts-clause-refusal : goal.returns-in_err-counts-clause-refusal
+returns-in_err-counts-clause-refusal c =
+    let p = err_from_is_err_and c.from_residual.result c.from_residual.ensures.1 in
+    rw (p.1, p.2) (search (question_refused, c.in_err-counts.was))
 
-pub loop-left-init : goal.loop-left-init
-loop-left-init c = search printing_starts
+pub loop-k-init : goal.loop-k-init
+loop-k-init c =
+    let ready = held_ready _ _ _ _ _ c.judge.ensures _ c.in_ok-counts.was in
+    record {
+      room = omega (arith, levels_most _ _ _ _ ready);
+      whole = search (header_put, c.in_ok-counts.was);
+    }
 
-pub loop-left-preserved : goal.loop-left-preserved
-loop-left-preserved c = search printing_goes
+pub report_at-report-requires-clause-ready_at : goal.report_at-report-requires-clause-ready_at
+report_at-report-requires-clause-ready_at c = search (held_ready, c.in_ok-counts.was)
+
+pub loop-k-preserved : goal.loop-k-preserved
+loop-k-preserved c = record {
+  room = omega arith;
+  whole = search line_put ∙ c.loop-k.invariant.whole;
+}
+
+pub returns-in_ok-counts-2-clause-refusal : goal.returns-in_ok-counts-2-clause-refusal
+returns-in_ok-counts-2-clause-refusal c = search (question_answered, c.in_ok-counts.was)
+
+pub returns-in_ok-counts-2-clause-text : goal.returns-in_ok-counts-2-clause-text
+returns-in_ok-counts-2-clause-text c = search last_put ∙ c.loop-k.invariant.whole

@@ -1,12 +1,15 @@
--- `Printing` holds at each turn.
+-- What is put so far, with the lines still to come, is the whole.
+use Rattle.std.proofs.Common.{◌≡◌, suc, ◌+◌, ◌*◌, ◌≤◌, ◌++◌, length}
 use Rattle.monitor.specs.Standing.{held_tree, held_sheet}
-use Rattle.printer.proofs.LevelsTurn.{Printing}
+use Rattle.printer.specs.Line.{most_line}
+use Rattle.printer.specs.Text.{lines_below, levels_text, most_text}
 use Rattle.printer.proofs.levels.put_levels.Given as goal
 
-abbrev pub invariant-loop-left : goal.invariant-loop-left
-invariant-loop-left l =
-    Printing (held_tree l.state l.tree_store) (held_sheet l.state l.sheet_store) l.n l.initial.draft l.place l.draft
-    l.end l.left
-
-abbrev pub decreases-loop-left : goal.decreases-loop-left
-decreases-loop-left l = l.left
+abbrev pub invariant-loop-k : goal.invariant-loop-k
+invariant-loop-k l =
+    let tree = held_tree l.state l.tree_store in
+    let sheet = held_sheet l.state l.sheet_store in
+    record {
+      room : length l.draft + most_line * (l.k + 1) ≤ most_text;
+      whole : l.draft ++ lines_below tree sheet l.n (suc l.k) ≡ levels_text tree sheet l.n;
+    }

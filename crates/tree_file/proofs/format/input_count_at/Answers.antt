@@ -2,8 +2,8 @@
 use Rattle.tree_file.proofs.Tallies.{read_inputs, read_none}
 use Rattle.tree_file.proofs.format.input_count_at.Goals as goal
 
-pub returns-then-kind_at-eq-EVENT : goal.returns-then-kind_at-eq-EVENT
-returns-then-kind_at-eq-EVENT c = search read_none
+pub returns-then-kind_at : goal.returns-then-kind_at
+returns-then-kind_at c = search read_none
 
 pub returns : goal.returns
 returns c = search read_inputs

@@ -1,25 +1,44 @@
 -- The judgement follows from what the parts answer.
+use Rattle.std.proofs.lemmas.Result.{err_from_is_err_and}
 use Rattle.tree_file.proofs.JudgedParts.{all_accepted, header_long, header_refused, links_refused}
 use Rattle.tree_file.proofs.JudgedParts.{records_absent, records_refused, sized}
 use Rattle.tree_file.proofs.judge.judge.Goals as goal
 
-pub returns-in-Found : goal.returns-in-Found
-returns-in-Found c = search header_refused
+pub returns-in_err-judge_header : goal.returns-in_err-judge_header
+returns-in_err-judge_header c =
+    let p = err_from_is_err_and c.from_residual.result c.from_residual.ensures.1 in
+    rw (p.1, p.2) (header_refused _ _ c.judge_header.ensures _ (c.in_err-judge_header.was))
 
 pub node_count-nodes-requires : goal.node_count-nodes-requires
-node_count-nodes-requires c = search header_long
+node_count-nodes-requires c = header_long _ _ c.judge_header.ensures (c.in_ok-judge_header.was)
 
-pub judge_records-records-requires : goal.judge_records-records-requires
-judge_records-records-requires c = search sized
+pub judge_records-requires : goal.judge_records-requires
+judge_records-requires c =
+    sized _ _ c.judge_header.ensures (c.in_ok-judge_header.was) _ c.node_count-nodes.ensures
 
-pub returns-in_default-records : goal.returns-in_default-records
-returns-in_default-records c = search records_refused
+pub returns-in_err-counts : goal.returns-in_err-counts
+returns-in_err-counts c =
+    let p = err_from_is_err_and c.from_residual-in_err-counts.result c.from_residual-in_err-counts.ensures.1 in
+    rw (p.1, p.2)
+    (records_refused _ _ c.judge_header.ensures (c.in_ok-judge_header.was) _ c.judge_records.ensures _
+    (c.in_err-counts.was))
 
-pub judge_links-links-requires : goal.judge_links-links-requires
-judge_links-links-requires c = search (sized, records_absent)
+pub judge_links-requires : goal.judge_links-requires
+judge_links-requires c =
+    let header = c.in_ok-judge_header.was in (
+      sized _ _ c.judge_header.ensures header _ c.node_count-nodes.ensures,
+      records_absent _ _ c.judge_header.ensures header _ c.judge_records.ensures _ (c.in_ok-counts.was),
+    )
 
-pub returns-in-Found-links : goal.returns-in-Found-links
-returns-in-Found-links c = search links_refused
+pub returns-in_err-judge_links : goal.returns-in_err-judge_links
+returns-in_err-judge_links c =
+    let p = err_from_is_err_and c.from_residual-in_err-judge_links.result c.from_residual-in_err-judge_links.ensures.1
+    in
+    rw (p.1, p.2)
+    (links_refused _ _ c.judge_header.ensures (c.in_ok-judge_header.was) _ c.judge_records.ensures _
+    (c.in_ok-counts.was) _ c.judge_links.ensures _ (c.in_err-judge_links.was))
 
 pub returns : goal.returns
-returns c = search all_accepted
+returns c =
+    all_accepted _ _ c.judge_header.ensures (c.in_ok-judge_header.was) _ c.judge_records.ensures _
+    (c.in_ok-counts.was) _ c.judge_links.ensures (c.in_ok-judge_links.was)

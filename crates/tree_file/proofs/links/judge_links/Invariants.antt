@@ -5,13 +5,10 @@ use Rattle.tree_file.proofs.LinksTurn.{GatesBefore, LinksBefore}
 use Rattle.tree_file.proofs.links.judge_links.Given as goal
 
 abbrev pub invariant-links : goal.invariant-links
-invariant-links l = LinksBefore l.file l.nodes l.named l.j l.gate l.inputs l.k
-
-abbrev pub decreases-links : goal.decreases-links
-decreases-links l = l.inputs - l.k
+invariant-links l = LinksBefore l.file l.nodes l.named l.first l.gate l.inputs l.k
 
 abbrev pub invariant-gates : goal.invariant-gates
-invariant-gates l = GatesBefore l.file l.nodes l.named l.j l.gate
+invariant-gates l = GatesBefore l.file l.nodes l.named l.first l.gate
 
 abbrev pub decreases-gates : goal.decreases-gates
 decreases-gates l = l.nodes - l.gate

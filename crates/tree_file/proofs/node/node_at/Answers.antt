@@ -2,11 +2,11 @@
 use Rattle.tree_file.proofs.Nodes.{and_read, event_read, or_read}
 use Rattle.tree_file.proofs.node.node_at.Goals as goal
 
-pub returns-then-kind-eq-EVENT : goal.returns-then-kind-eq-EVENT
-returns-then-kind-eq-EVENT c = search event_read
+pub returns-then-kind : goal.returns-then-kind
+returns-then-kind c = search event_read
 
-pub returns-then-kind-eq-AND : goal.returns-then-kind-eq-AND
-returns-then-kind-eq-AND c = search and_read
+pub returns-then-kind-2 : goal.returns-then-kind-2
+returns-then-kind-2 c = search and_read
 
-pub returns : goal.returns
-returns c = search or_read
+pub returns-else-kind-2 : goal.returns-else-kind-2
+returns-else-kind-2 c = search or_read

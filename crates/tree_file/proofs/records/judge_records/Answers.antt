@@ -1,19 +1,33 @@
 -- One turn of the loop, and what follows where it ends.
+use Rattle.std.proofs.Common.{arith}
+use Rattle.std.proofs.lemmas.Result.{err_from_is_err_and}
 use Rattle.tree_file.proofs.RecordsTurn.{event_more, gate_more, inputs_missing, records_accepted, records_none}
 use Rattle.tree_file.proofs.RecordsTurn.{records_stop}
 use Rattle.tree_file.proofs.records.judge_records.Goals as goal
+use Rattle.tree_file.proofs.records.judge_records.Goals.{then-kind_at, else-kind_at}
 
 pub loop-i-init : goal.loop-i-init
 loop-i-init c = records_none _ _
 
-pub returns-in-Found : goal.returns-in-Found
-returns-in-Found c = search records_stop
-
-pub loop-i-preserved-then-kind-eq-EVENT : goal.loop-i-preserved-then-kind-eq-EVENT
-loop-i-preserved-then-kind-eq-EVENT c = search event_more
+pub returns-in_err-judge_record : goal.returns-in_err-judge_record
+returns-in_err-judge_record c =
+    let p = err_from_is_err_and c.from_residual.result c.from_residual.ensures.1 in
+    rw (p.1, p.2)
+    (records_stop _ _ _ _ _ c.requires c.loop-i.invariant (omega arith) _ c.judge_record.ensures _
+    (c.in_err-judge_record.was))
 
 pub loop-i-preserved : goal.loop-i-preserved
-loop-i-preserved c = search gate_more
+loop-i-preserved c =
+    elim c.if-kind_at.branch [
+      | then-kind_at w ↦
+          rw (w.events-is, w.inputs-is)
+          (event_more _ _ _ _ _ c.requires c.loop-i.invariant (omega arith) _ c.judge_record.ensures
+          c.in_ok-judge_record.was _ c.kind_at.ensures w.if-kind_at.true)
+      | else-kind_at w ↦
+          rw (w.events-is, w.inputs-is)
+          (gate_more _ _ _ _ _ c.requires c.loop-i.invariant (omega arith) _ c.judge_record.ensures
+          c.in_ok-judge_record.was _ c.kind_at.ensures _ w.field_at-inputs.ensures w.if-kind_at.false)
+    ]
 
 pub returns-then-inputs-nodes : goal.returns-then-inputs-nodes
 returns-then-inputs-nodes c = search inputs_missing

@@ -1,11 +1,8 @@
 -- No window passed has a fault.
-use Prim.Native.Nat.{◌-◌}
 use Rattle.refusals.proofs.FirstFault.{Passed}
+use Rattle.work_windows.specs.Book.{window_count}
 use Rattle.work_windows.specs.BookRules.{window_fault}
 use Rattle.work_windows.proofs.book.judge_windows.Given as goal
 
 abbrev pub invariant-loop-i : goal.invariant-loop-i
-invariant-loop-i l = Passed (window_fault l.events l.book) l.count l.i
-
-abbrev pub decreases-loop-i : goal.decreases-loop-i
-decreases-loop-i l = l.count - l.i
+invariant-loop-i l = Passed (window_fault l.events l.book) (window_count l.book) l.i

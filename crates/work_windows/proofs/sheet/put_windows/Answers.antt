@@ -1,10 +1,18 @@
--- One turn of the loop.
-use Rattle.work_windows.proofs.WindowsTurn.{writing_starts, writing_goes}
+-- One turn of the loop, by whether the window is open.
+use Rattle.std.proofs.Common.{sym, ◌∙◌}
+use Rattle.theory.specs.Unit.{billion}
+use Rattle.work_windows.proofs.WindowsTurn.{window_opened, window_shut, written_more}
 use Rattle.work_windows.proofs.sheet.put_windows.Goals as goal
-
-pub loop-i-init : goal.loop-i-init
-loop-i-init c = writing_starts _ _ _ _ _
+use Rattle.work_windows.proofs.sheet.put_windows.Goals.{then-is_open, else-is_open}
 
 pub loop-i-preserved : goal.loop-i-preserved
 loop-i-preserved c =
-    writing_goes _ _ _ _ _ _ _ c.loop-i.invariant c.loop-i-test.true _ c.put_window.ensures c.put_window.auto.buffer
+    written_more _ _ _ _ _ _ c.loop-i.invariant _ (elim c.if-is_open.branch [
+      | then-is_open w ↦
+          rw w.buffer-is
+          (window_opened billion _ _ _ _ _ c.window_at-window.ensures (sym c.is_open.ensures ∙ w.if-is_open.true) _
+          w.put_certain.ensures)
+      | else-is_open w ↦
+          rw w.buffer-is
+          (window_shut billion _ _ _ _ _ c.window_at-window.ensures (sym c.is_open.ensures ∙ w.if-is_open.false))
+    ])

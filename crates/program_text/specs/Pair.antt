@@ -1,0 +1,22 @@
+-- A pair that is handed in, the tree file first, where nothing is held and the stores are zeros.
+use Rattle.std.specs.Prelude.{◌≡◌, List, ℕ, replicate}
+use Rattle.refusals.specs.FirstFault.{FirstFault, ◌or_else◌}
+use Rattle.monitor.specs.HandIn.{tree_answer, sheet_answer, nothing_held}
+use Rattle.monitor.specs.Standing.{held_tree, held_sheet}
+use Rattle.monitor.specs.declared.hand_in.Answer.{Answer}
+use Rattle.program_text.specs.declared.held.TheConstants.{MOST_TREE, MOST_SHEET}
+use Rattle.program_text.specs.declared.held.Held.{Held}
+
+abbrev pub tree_answered : List ℕ → Answer
+tree_answered tree = tree_answer nothing_held tree (replicate MOST_TREE 0)
+
+abbrev pub sheet_answered : List ℕ → List ℕ → Answer
+sheet_answered tree sheet = sheet_answer (tree_answered tree).state sheet (replicate MOST_SHEET 0)
+
+-- The first refusal of the two.
+abbrev pub pair_fault : List ℕ → List ℕ → FirstFault
+pair_fault tree sheet = (tree_answered tree).verdict or_else (sheet_answered tree sheet).verdict
+
+-- The pair is held, byte for byte.
+abbrev pub HoldsPair : Held → List ℕ → List ℕ → Type 0
+HoldsPair held tree sheet = (held_tree held.state held.tree ≡ tree) × (held_sheet held.state held.sheet ≡ sheet)
