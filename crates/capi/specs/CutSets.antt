@@ -3,7 +3,7 @@ use Rattle.std.specs.Prelude.{ℕ, ◌≡◌, List, Result, Ok, Err}
 use Rattle.refusals.specs.declared.refusal.Refusal.{Refusal as Reason}
 use Rattle.monitor.specs.declared.state.State.{State as Held}
 use Rattle.cut_sets.specs.Listed.{SetsLeft}
-use Rattle.cut_sets.specs.declared.list.Reply.{Reply}
+use Rattle.monitor.specs.declared.state.Reply.{Reply}
 use Rattle.capi.specs.State.{state_of}
 use Rattle.capi.specs.Refusal.{not_refused, refused_by}
 use Rattle.capi.specs.declared.minimal_cut_sets.SetCount.{SetCount}
@@ -24,7 +24,7 @@ listing_by held outcome =
     }
 
 -- The listing's answer for C.
-abbrev pub listing_for : Reply → Listing
+abbrev pub listing_for : Reply ℕ → Listing
 listing_for reply = listing_by reply.state reply.outcome
 
 -- The lent slice after a listing, by the number that C reads in the answer.

@@ -6,7 +6,7 @@ use Rattle.evaluation.specs.Slices.{Slices}
 use Rattle.monitor.specs.Promise.{Kept}
 use Rattle.monitor.specs.declared.state.State.{State as Held}
 use Rattle.monitor.specs.declared.question.Report.{Report}
-use Rattle.monitor.specs.declared.question.Reply.{Reply as Replied}
+use Rattle.monitor.specs.declared.state.Reply.{Reply as Replied}
 use Rattle.capi.specs.State.{state_of}
 use Rattle.capi.specs.Refusal.{not_refused, refused_by}
 use Rattle.capi.specs.declared.question.Reply.{Reply}
@@ -33,7 +33,7 @@ reply_by held (Err reason) = record {
 }
 
 -- The reply of the monitor for C.
-abbrev pub reply_for : Replied → Reply
+abbrev pub reply_for : Replied Report → Reply
 reply_for reply = reply_by reply.state reply.outcome
 
 -- The report that a reply repeats.

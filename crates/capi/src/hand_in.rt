@@ -6,9 +6,11 @@ ghost use Rattle.capi.specs.HandIn.{answer_for};
 
 use crate::refusal::Refusal;
 use crate::state::State;
-use monitor::hand_in::{Answer as Answered, drop_both, hand_in_sheet, hand_in_tree};
+use monitor::hand_in::{drop_both, hand_in};
+use monitor::held::{Sheet, Tree};
+use monitor::state::Reply;
 
-// What a hand-in answers: the state after it, and why the file was refused, if it was.
+// What a hand-in or a mirroring answers: the state after it, and why it was refused, if it was.
 // The C interface has no Result: number 0 in the refusal says Ok.
 #[repr(C)]
 #[derive(Clone, Copy)]
@@ -17,14 +19,14 @@ pub struct Answer {
     pub refusal: Refusal,
 }
 
-// The answer of the monitor for C.
-impl From<Answered> for Answer {
-    ghost from_gives = { λ answered answer. answer ≡ answer_for answered };
+// The answer for C of a hand-in or a mirroring.
+impl From<Reply<()>> for Answer {
+    ghost from_gives = { λ reply answer. answer ≡ answer_for reply };
 
-    fn from(answered: Answered) -> Answer {
+    fn from(reply: Reply<()>) -> Answer {
         Answer {
-            state: answered.state.into(),
-            refusal: answered.verdict.into(),
+            state: reply.state.into(),
+            refusal: reply.outcome.into(),
         }
     }
 }
@@ -34,7 +36,7 @@ pub fn nekbrod_hand_in_tree(state: State, file: &[u8], store: &mut [u8]) -> Answ
     ensures value { result ≡ answer_for (tree_answer (held_of state) file.now store.old) }
     ensures store_after { store.new ≡ tree_store file.now store.old }
 {
-    hand_in_tree(state.into(), file, store).into()
+    hand_in::<Tree>(state.into(), file, store).into()
 }
 
 // Hands in an opinion sheet: an accepted one is copied to the front of its store and replaces the one held.
@@ -42,7 +44,7 @@ pub fn nekbrod_hand_in_sheet(state: State, file: &[u8], store: &mut [u8]) -> Ans
     ensures value { result ≡ answer_for (sheet_answer (held_of state) file.now store.old) }
     ensures store_after { store.new ≡ sheet_store file.now store.old }
 {
-    hand_in_sheet(state.into(), file, store).into()
+    hand_in::<Sheet>(state.into(), file, store).into()
 }
 
 // Drops both files. The stores' bytes stay.

@@ -10,6 +10,8 @@ ghost use Rattle.capi.specs.Question.{reply_for, PromisesKept};
 use crate::question::Reply;
 use crate::state::State;
 use evaluation::slices::WorkSlices;
+use monitor::lent::HeldPair;
+use work_windows::hour::BookAtHour;
 use work_windows::question::question_at_hour;
 
 // Questions level k of n at an hour: the hour's sheet is written to the buffer. The last promise is demands 2 and 3 of
@@ -41,21 +43,16 @@ pub fn nekbrod_question_at_hour(
         (written_sheet (held_sheet (held_of state) sheet_store.now) book.now hour) k n
         (slices lower.new upper.new marks.new) }
 {
+    let held = HeldPair {
+        state: state.into(),
+        tree_store,
+        sheet_store,
+    };
+    let at = BookAtHour { book, hour };
     let mut slices = WorkSlices {
         lower,
         upper,
         marks,
     };
-    question_at_hour(
-        state.into(),
-        tree_store,
-        sheet_store,
-        book,
-        k,
-        n,
-        hour,
-        buffer,
-        &mut slices,
-    )
-    .into()
+    question_at_hour(held, at, k, n, buffer, &mut slices).into()
 }

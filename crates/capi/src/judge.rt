@@ -6,7 +6,7 @@ ghost use Rattle.capi.specs.Standing.{standing_for};
 
 use crate::refusal::Refusal;
 use crate::state::State;
-use monitor::judge::judge;
+use monitor::lent::HeldPair;
 use refusals::refusal::Refusal as Reason;
 use tree_file::judgement::Counts;
 
@@ -45,5 +45,10 @@ pub fn nekbrod_judge(
     ensures { result ≡ standing_for
         (standing_of (held_of state) tree_store.now sheet_store.now k n) }
 {
-    judge(state.into(), tree_store, sheet_store, k, n).into()
+    let held = HeldPair {
+        state: state.into(),
+        tree_store,
+        sheet_store,
+    };
+    held.judge_level(k, n).into()
 }

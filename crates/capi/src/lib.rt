@@ -1,5 +1,6 @@
-// The monitor's calls for C and Rust: numbers, lent slices and structs by value. capi_c exports them.
-// The C interface fixes their parameters: a level is two numbers, the work slices are three.
+// The monitor's calls for C and Rust: numbers, lent slices and structs by value. capi_c exports them. The C interface
+// fixes their parameters: a level is two numbers, the work slices are three, a mirror's buffers two, and the state
+// goes by value with its stores lent beside it.
 #![tactic(auto)]
 
 pub mod hand_in;

@@ -8,7 +8,9 @@ ghost use Rattle.capi.specs.CutSets.{count_for, listing_for, SliceLeft};
 use crate::refusal::Refusal;
 use crate::state::State;
 use cut_sets::count::count_sets;
-use cut_sets::list::{Reply, list_sets};
+use cut_sets::list::list_sets;
+use monitor::lent::HeldTree;
+use monitor::state::Reply;
 use refusals::refusal::Refusal as Reason;
 
 // What counting answers: why it was refused, if it was, and the number of minimal cut sets, 0 where refused.
@@ -43,10 +45,10 @@ impl From<Result<u64, Reason>> for SetCount {
 }
 
 // The answer for C of a listing.
-impl From<Reply> for Listing {
+impl From<Reply<u64>> for Listing {
     ghost from_gives = { λ reply listing. listing ≡ listing_for reply };
 
-    fn from(reply: Reply) -> Listing {
+    fn from(reply: Reply<u64>) -> Listing {
         let SetCount { refusal, count } = reply.outcome.into();
         Listing {
             state: reply.state.into(),
@@ -60,7 +62,11 @@ impl From<Reply> for Listing {
 pub fn nekbrod_count_cut_sets(state: State, tree_store: &[u8]) -> SetCount
     ensures { result ≡ count_for (count_outcome (held_of state) tree_store.now) }
 {
-    count_sets(state.into(), tree_store).into()
+    let held = HeldTree {
+        state: state.into(),
+        tree_store,
+    };
+    count_sets(held).into()
 }
 
 // Lists the minimal cut sets of the held tree in the lent slice: refusals 21, 23, 26 and 27, or their number.
@@ -71,5 +77,9 @@ pub fn nekbrod_list_cut_sets(state: State, tree_store: &[u8], sets: &mut [u64]) 
     ensures slice_left { SliceLeft result (held_tree (held_of state) tree_store.now)
         sets.old sets.new }
 {
-    list_sets(state.into(), tree_store, sets).into()
+    let held = HeldTree {
+        state: state.into(),
+        tree_store,
+    };
+    list_sets(held, sets).into()
 }

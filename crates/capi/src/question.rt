@@ -9,7 +9,9 @@ ghost use Rattle.capi.specs.Question.{reply_for, PromisesKept};
 use crate::refusal::Refusal;
 use crate::state::State;
 use evaluation::slices::WorkSlices;
-use monitor::question::{Reply as Replied, Report, question};
+use monitor::lent::HeldPair;
+use monitor::question::Report;
+use monitor::state::Reply as Replied;
 use rounding::end::{Enclosure, End};
 use rounding::unit::UNIT;
 
@@ -44,10 +46,10 @@ const NOTHING_SAID: Report = Report {
 };
 
 // The reply of the monitor for C.
-impl From<Replied> for Reply {
+impl From<Replied<Report>> for Reply {
     ghost from_gives = { λ replied reply. reply ≡ reply_for replied };
 
-    fn from(replied: Replied) -> Reply {
+    fn from(replied: Replied<Report>) -> Reply {
         let state = replied.state.into();
         let refusal = replied.outcome.into();
         let report = replied.outcome.unwrap_or(NOTHING_SAID);
@@ -85,10 +87,15 @@ pub fn nekbrod_question(
         (held_sheet (held_of state) sheet_store.now) k n
         (slices lower.new upper.new marks.new) }
 {
+    let held = HeldPair {
+        state: state.into(),
+        tree_store,
+        sheet_store,
+    };
     let mut slices = WorkSlices {
         lower,
         upper,
         marks,
     };
-    question(state.into(), tree_store, sheet_store, k, n, &mut slices).into()
+    held.question(k, n, &mut slices).into()
 }

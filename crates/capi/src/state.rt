@@ -1,4 +1,4 @@
-// The state as C holds it between calls.
+// The state as C holds it between calls. It is not the monitor's own: its layout is C's.
 ghost use Rattle.std.specs.Prelude.{◌≡◌};
 ghost use Rattle.capi.specs.State.{held_of, state_of};
 

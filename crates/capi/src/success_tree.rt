@@ -7,6 +7,7 @@ ghost use Rattle.capi.specs.Mirror.{mirror_answer_for, LawKept};
 use crate::hand_in::Answer;
 use crate::state::State;
 use mirror::mirror::mirror;
+use monitor::lent::HeldPair;
 
 // Writes the mirror of the held pair to the fronts of the two buffers. The last promise is De Morgan's law on what is
 // reported of the two pairs.
@@ -27,15 +28,10 @@ pub fn nekbrod_mirror(
     ensures law_kept { LawKept result (held_of state) tree_store.now sheet_store.now
         tree_buffer.new sheet_buffer.new }
 {
-    let reply = mirror(
-        state.into(),
+    let held = HeldPair {
+        state: state.into(),
         tree_store,
         sheet_store,
-        tree_buffer,
-        sheet_buffer,
-    );
-    Answer {
-        state: reply.state.into(),
-        refusal: reply.outcome.into(),
-    }
+    };
+    mirror(held, tree_buffer, sheet_buffer).into()
 }

@@ -2,7 +2,6 @@
 use crate::line::Line;
 use cut_sets::count::count_sets;
 use cut_sets::list::list_sets;
-use monitor::judge::judge_tree;
 use program_text::held::Held;
 use program_text::no_answer::NoAnswer;
 use program_text::read::read_full;
@@ -13,7 +12,7 @@ const MOST_SETS: usize = 100000;
 // Lists the sets of the held tree, and prints a line for each.
 fn print_sets(rt: &impl Print, held: &Held) -> Result<(), NoAnswer> {
     let mut sets = [0; MOST_SETS];
-    let reply = list_sets(held.state, &held.tree, &mut sets);
+    let reply = list_sets(held.lent_tree(), &mut sets);
     let count = reply.outcome?;
     for set in sets.iter().take(count as usize) {
         println!(rt; "{}", Line(*set))?;
@@ -25,11 +24,11 @@ fn print_sets(rt: &impl Print, held: &Held) -> Result<(), NoAnswer> {
 pub fn print_answer(rt: &(impl Input + Print + Eprint)) -> Result<(), NoAnswer> {
     // Of a longer input its first 65,536 bytes are judged, which are too long for any tree file.
     let mut file = [0; 65536];
-    let length = read_full(rt, &mut file);
+    let file = read_full(rt, &mut file);
     let mut held = Held::nothing();
-    held.hand_in_tree(&file[..length])?;
-    let counts = judge_tree(held.state, &held.tree)?;
-    let count = count_sets(held.state, &held.tree)?;
+    held.hand_in_tree(file)?;
+    let counts = held.lent_tree().judge()?;
+    let count = count_sets(held.lent_tree())?;
     println!(rt;
         "tree {} events {} cut sets {count}",
         counts.number, counts.events

@@ -1,5 +1,5 @@
-// The minimal cut sets of a tree file: reads the file from standard input, and prints how many there are and then each
-// set on a line, or the refusal of the file. Where that fails, it says so on standard error.
+// The minimal cut sets of a tree file: reads the file from standard input, and prints how many there are and then
+// each set on a line, or the refusal of the file. Where that fails, it says so on standard error.
 #![tactic(auto)]
 
 mod answer;

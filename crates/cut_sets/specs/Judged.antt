@@ -12,7 +12,7 @@ use Rattle.monitor.specs.Standing.{held_tree, standing, tree_rules}
 use Rattle.monitor.specs.Question.{root}
 use Rattle.monitor.specs.declared.state.State.{State}
 use Rattle.node_sets.specs.Numbers.{most_events}
-use Rattle.cut_sets.specs.declared.list.Reply.{Reply}
+use Rattle.monitor.specs.declared.state.Reply.{Reply}
 
 -- The tree of the root.
 abbrev pub root_tree : List ℕ → Tree
@@ -54,5 +54,5 @@ list_outcome state tree_store room =
     judged_by (first_of (list_rules state tree_store room)) (set_count (held_tree state tree_store))
 
 -- What `list_sets` answers: the state comes back as it was.
-abbrev pub reply_of : State → List ℕ → ℕ → Reply
+abbrev pub reply_of : State → List ℕ → ℕ → Reply ℕ
 reply_of state tree_store room = record { state = state; outcome = list_outcome state tree_store room }

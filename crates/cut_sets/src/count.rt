@@ -6,7 +6,7 @@ ghost use Rattle.cut_sets.specs.Judged.{count_outcome};
 ghost use Rattle.node_sets.specs.Requirements.{Small};
 
 use crate::judge::judge_events;
-use monitor::state::State;
+use monitor::lent::HeldTree;
 use node_sets::counting::count_beneath;
 use refusals::refusal::Refusal;
 use tree_file::format::MAX_NODES;
@@ -21,10 +21,10 @@ fn count_at(tree: &[u8], i: usize) -> u64
 }
 
 // The number of minimal cut sets of the held tree.
-pub fn count_sets(state: State, tree_store: &[u8]) -> Result<u64, Refusal>
-    ensures { result ≡ count_outcome state tree_store.now }
+pub fn count_sets(held: HeldTree) -> Result<u64, Refusal>
+    ensures { result ≡ count_outcome held.entry.state held.entry.tree_store.now }
 {
-    let counts = judge_events(state, tree_store)?;
-    let tree = &tree_store[..state.tree_len];
+    let counts = judge_events(held)?;
+    let tree = &held.tree_store[..held.state.tree_len];
     Ok(count_at(tree, counts.nodes - 1))
 }

@@ -8,19 +8,13 @@ ghost use Rattle.cut_sets.specs.Listed.{SetsLeft};
 ghost use Rattle.node_sets.specs.Requirements.{Small};
 
 use crate::judge::judge_events;
-use monitor::state::State;
+use monitor::lent::HeldTree;
+use monitor::state::Reply;
 use node_sets::counted::{CountedNode, CountedTree};
 use node_sets::counting::count_beneath;
 use refusals::refusal::Refusal;
 use refusals::rule::Rule;
 use tree_file::format::MAX_NODES;
-
-// What listing answers: the state, unchanged, and the number of sets.
-#[derive(Clone, Copy)]
-pub struct Reply {
-    pub state: State,
-    pub outcome: Result<u64, Refusal>,
-}
 
 // Counts the sets of the root, and writes them where the slice has a place for each: refusal 27.
 fn listed(tree: &[u8], root: usize, sets: &mut [u64]) -> Result<u64, Refusal>
@@ -48,21 +42,26 @@ fn listed(tree: &[u8], root: usize, sets: &mut [u64]) -> Result<u64, Refusal>
 }
 
 // What listing comes to, and what it leaves in the lent slice.
-fn outcome(state: State, tree_store: &[u8], sets: &mut [u64]) -> Result<u64, Refusal>
-    ensures value { result ≡ list_outcome state tree_store.now (length sets.old) }
-    ensures sets_left { SetsLeft result (held_tree state tree_store.now) sets.old sets.new }
+fn outcome(held: HeldTree, sets: &mut [u64]) -> Result<u64, Refusal>
+    ensures value { result ≡ list_outcome held.entry.state held.entry.tree_store.now (length sets.old) }
+    ensures sets_left { SetsLeft result (held_tree held.entry.state held.entry.tree_store.now)
+        sets.old sets.new }
 {
-    let counts = judge_events(state, tree_store)?;
-    let tree = &tree_store[..state.tree_len];
+    let counts = judge_events(held)?;
+    let tree = &held.tree_store[..held.state.tree_len];
     listed(tree, counts.nodes - 1, sets)
 }
 
-// Lists the minimal cut sets of the held tree to the front of the lent slice; the order is left open.
-pub fn list_sets(state: State, tree_store: &[u8], sets: &mut [u64]) -> Reply
-    ensures value { result ≡ reply_of state tree_store.now (length sets.old) }
-    ensures sets_left { SetsLeft result.outcome (held_tree state tree_store.now)
+// Lists the minimal cut sets of the held tree to the front of the lent slice; the order is left open. The state comes
+// back as it was.
+pub fn list_sets(held: HeldTree, sets: &mut [u64]) -> Reply<u64>
+    ensures value { result ≡ reply_of held.entry.state held.entry.tree_store.now (length sets.old) }
+    ensures sets_left { SetsLeft result.outcome (held_tree held.entry.state held.entry.tree_store.now)
         sets.old sets.new }
 {
-    let outcome = outcome(state, tree_store, sets);
-    Reply { state, outcome }
+    let outcome = outcome(held, sets);
+    Reply {
+        state: held.state,
+        outcome,
+    }
 }

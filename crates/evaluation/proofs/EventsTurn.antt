@@ -1,36 +1,35 @@
 -- One turn of the first phase: what a node's turn asks, and what the cut of its event does.
-use Prim.Native.Nat.{ℕ, ◌<◌}
+use Prim.Native.Nat.{ℕ, suc, ◌<◌}
 use mathlib.Core.Path.{◌≡◌, sym}
 use mathlib.Core.List.{List}
-use native.Mathlib.Nat.{le_refl}
 use Rattle.tree_file.specs.Format.{node_count}
 use Rattle.tree_file.specs.NodeTable.{read_node}
 use Rattle.tree_file.specs.declared.node.Node.TheVariants as node
 use Rattle.tree_file.proofs.Nodes.{event_inside}
 use Rattle.opinion_sheet.specs.Format.{event_count as entry_count}
 use Rattle.opinion_sheet.specs.WellFormed.{WellFormed as WellFormedSheet}
+use Rattle.opinion_sheet.specs.Judged.{counts_of, judged}
+use Rattle.opinion_sheet.proofs.Accepted.{accepted_well_formed}
+use Rattle.std.specs.Prelude.{Ok}
+use Rattle.tree_file.specs.Tallies.{event_count}
+use Rattle.tree_file.specs.WellFormed.{WellFormed}
 use Rattle.rounding.specs.declared.end.Enclosure.{Enclosure}
-use Rattle.evaluation.specs.Slices.{Slices}
+use Rattle.evaluation.specs.Slices.{Slices, Long}
 use Rattle.evaluation.specs.Phases.{event_turn}
-use Rattle.evaluation.specs.Requirements.{Evaluable}
 use Rattle.evaluation.proofs.Places.{same_long}
 use Rattle.evaluation.proofs.Turns.{Reached, reached_length}
 use Rattle.evaluation.proofs.Evaluated.{events_local}
 
--- what a node's turn asks
-pub event_asked : (cuts : ℕ → Enclosure) {tree sheet : List ℕ} {s₀ : Slices} → Evaluable tree sheet s₀
-    → {m : ℕ} {s : Slices} {i : ℕ} → Reached (event_turn cuts tree) s₀ m s i → Evaluable tree sheet s
-event_asked cuts {tree} asked r = record {
-  tree_well_formed = asked.tree_well_formed;
-  sheet_well_formed = asked.sheet_well_formed;
-  same_events = asked.same_events;
-  long = same_long (reached_length (events_local cuts tree) r) (le_refl (node_count tree)) asked.long;
-}
+-- at a node's turn the slices have its place
+pub event_long : (cuts : ℕ → Enclosure) (tree : List ℕ) {s₀ : Slices} {n m : ℕ} → Long n s₀ → {s : Slices} {i : ℕ}
+    → Reached (event_turn cuts tree) s₀ m s i → i < n → Long (suc i) s
+event_long cuts tree long r l = same_long (reached_length (events_local cuts tree) r) l long
 
 -- what the cut of a basic event asks
-pub cut_asked : {tree sheet : List ℕ} {i : ℕ} {s : Slices} → Evaluable tree sheet s → i < node_count tree
+pub cut_asked : {tree sheet : List ℕ} {i : ℕ} → WellFormed tree → judged sheet ≡ Ok (counts_of sheet)
+    → entry_count sheet ≡ event_count tree → i < node_count tree
     → {event : ℕ} → node.Event event ≡ read_node tree i → WellFormedSheet sheet × (event < entry_count sheet)
-cut_asked {tree} {i = i} asked l {event} e = (
-  asked.sheet_well_formed,
-  rw asked.same_events (event_inside tree asked.tree_well_formed i l event (sym e)),
+cut_asked {tree} {sheet} {i} formed accepted same l {event} e = (
+  accepted_well_formed sheet (counts_of sheet) accepted,
+  rw same (event_inside tree formed i l event (sym e)),
 )

@@ -4,6 +4,7 @@ use Rattle.theory.specs.Rounding.{Direction, down, up, End}
 use Rattle.rounding.specs.Marks.{mark_byte, exact_in}
 use Rattle.rounding.specs.declared.end.Enclosure.{Enclosure}
 use Rattle.evaluation.specs.declared.slices.WorkSlices.{WorkSlices}
+use Rattle.evaluation.specs.declared.slices.StoredEnds.{StoredEnds}
 
 pub record Slices : Type 0 where
   pub lower : List ℕ
@@ -17,6 +18,10 @@ slices lower upper marks = record { lower = lower; upper = upper; marks = marks 
 -- What the struct's slices hold.
 abbrev pub contents : WorkSlices → Slices
 contents s = slices s.lower.now s.upper.now s.marks.now
+
+-- What is read of them.
+abbrev pub read : StoredEnds → Slices
+read s = slices s.lower.now s.upper.now s.marks.now
 
 -- The two lend the same slices, whatever these hold: what is put through one is then in its caller's slices.
 pub record SameSlices (s t : WorkSlices) : Type 0 where

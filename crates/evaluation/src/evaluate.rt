@@ -5,7 +5,7 @@ ghost use Rattle.evaluation.specs.Slices.{contents, SameSlices};
 ghost use Rattle.evaluation.specs.Report.{slices_after};
 ghost use Rattle.evaluation.specs.Requirements.{Evaluable};
 
-use crate::events::put_events;
+use crate::events::EventCuts;
 use crate::gates::put_gates;
 use crate::slices::WorkSlices;
 use opinion_sheet::level::Level;
@@ -16,6 +16,7 @@ pub fn evaluate(tree: &[u8], sheet: &[u8], level: Level, slices: &mut WorkSlices
     ensures same_slices { SameSlices slices.new slices.old }
     ensures value { contents slices.new ≡ slices_after billion tree.now sheet.now level.k level.n (contents slices.old) }
 {
-    put_events(tree, sheet, level, slices);
+    let cuts = EventCuts { tree, sheet, level };
+    cuts.put_events(slices);
     put_gates(tree, slices);
 }

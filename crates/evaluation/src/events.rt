@@ -1,12 +1,15 @@
 // The first phase: the cut of each basic event to its node's place.
-ghost use Rattle.std.specs.Prelude.{◌≡◌, ◌<◌};
+ghost use Rattle.std.specs.Prelude.{◌≡◌, suc, ◌<◌, Ok};
 ghost use Rattle.theory.specs.Unit.{billion};
 ghost use Rattle.tree_file.specs.Format.{node_count};
 ghost use Rattle.tree_file.specs.NodeTable.{read_node};
+ghost use Rattle.tree_file.specs.Tallies.{event_count};
+ghost use Rattle.tree_file.specs.WellFormed.{WellFormed};
+ghost use Rattle.opinion_sheet.specs.Format.{event_count as entry_count};
+ghost use Rattle.opinion_sheet.specs.Judged.{counts_of, judged};
 ghost use Rattle.opinion_sheet.specs.EventCut.{cut_at};
-ghost use Rattle.evaluation.specs.Slices.{contents, SameSlices, after_turns};
+ghost use Rattle.evaluation.specs.Slices.{contents, SameSlices, Long, after_turns};
 ghost use Rattle.evaluation.specs.Phases.{event_put, event_turn};
-ghost use Rattle.evaluation.specs.Requirements.{Evaluable};
 
 use crate::slices::WorkSlices;
 use opinion_sheet::cut::cut_at;
@@ -14,30 +17,45 @@ use opinion_sheet::level::Level;
 use tree_file::format::node_count;
 use tree_file::node::{Node, node_at};
 
-// Puts the cut of node i, if it is a basic event.
-fn put_event(tree: &[u8], sheet: &[u8], i: usize, level: Level, slices: &mut WorkSlices)
-    requires evaluable { Evaluable tree.now sheet.now (contents slices.old) }
-    requires i_bound { i < node_count tree.now }
-    ensures same_slices { SameSlices slices.new slices.old }
-    ensures value { contents slices.new
-        ≡ event_put (λ e. cut_at billion sheet.now e level.k level.n) i (read_node tree.now i)
-        (contents slices.old) }
-{
-    if let Node::Event(event) = node_at(tree, i) {
-        slices.put(i, cut_at(sheet, event, level));
-    }
+// The cuts of a tree's basic events: those of a sheet with as many entries, at a level. A ghost field holds no
+// `WellFormed` sheet, which names a speaker, but that it is accepted, which says the same.
+#[derive(Clone, Copy)]
+pub struct EventCuts<'a> {
+    pub tree: &'a [u8],
+    pub sheet: &'a [u8],
+    pub level: Level,
+    pub ghost tree_well_formed: { WellFormed tree.now },
+    pub ghost sheet_accepted: { judged sheet.now ≡ Ok (counts_of sheet.now) },
+    pub ghost same_events: { entry_count sheet.now ≡ event_count tree.now },
 }
 
-// Puts the cuts of all basic events.
-pub fn put_events(tree: &[u8], sheet: &[u8], level: Level, slices: &mut WorkSlices)
-    requires { Evaluable tree.now sheet.now (contents slices.old) }
-    ensures same_slices { SameSlices slices.new slices.old }
-    ensures value { contents slices.new
-        ≡ after_turns (event_turn (λ e. cut_at billion sheet.now e level.k level.n) tree.now) (node_count tree.now)
-        (contents slices.old) }
-{
-    let nodes = node_count(tree);
-    for i in 0..nodes {
-        put_event(tree, sheet, i, level, slices);
+impl EventCuts<'_> {
+    // Puts the cut of node i, if it is a basic event.
+    fn put_event(self, i: usize, slices: &mut WorkSlices)
+        requires inside { i < node_count self.tree.now }
+        requires long { Long (suc i) (contents slices.old) }
+        ensures same_slices { SameSlices slices.new slices.old }
+        ensures value { contents slices.new
+            ≡ event_put (λ e. cut_at billion self.entry.sheet.now e self.entry.level.k self.entry.level.n) i
+            (read_node self.entry.tree.now i) (contents slices.old) }
+    {
+        if let Node::Event(event) = node_at(self.tree, i) {
+            slices.put(i, cut_at(self.sheet, event, self.level));
+        }
+    }
+
+    // Puts the cuts of all basic events.
+    pub fn put_events(self, slices: &mut WorkSlices)
+        requires { Long (node_count self.tree.now) (contents slices.old) }
+        ensures same_slices { SameSlices slices.new slices.old }
+        ensures value { contents slices.new
+            ≡ after_turns
+            (event_turn (λ e. cut_at billion self.entry.sheet.now e self.entry.level.k self.entry.level.n)
+            self.entry.tree.now) (node_count self.entry.tree.now) (contents slices.old) }
+    {
+        let nodes = node_count(self.tree);
+        for i in 0..nodes {
+            self.put_event(i, slices);
+        }
     }
 }

@@ -42,7 +42,8 @@ fn seen_input(kind: GateKind, links: &[u8], j: usize, slices: &WorkSlices) -> En
 }
 
 // Both ends of a gate by the stored ends of the nodes that its links name, in one pass. The links are the part of the
-// tree file that starts at the gate's first link. The fold starts with the first input: a step by it, from 1, is itself.
+// tree file that starts at the gate's first link. The fold starts with the first input: a step by it, from 1, is
+// itself.
 pub fn gate_ends(kind: GateKind, links: &[u8], inputs: usize, slices: &WorkSlices) -> Enclosure
     requires { InputsStored billion links.now inputs (contents slices.now) }
     ensures { result ≡ enclosure (λ w. fold_end billion w (kind_as kind) links.now inputs

@@ -40,7 +40,7 @@ fn node_in_order(tree: &[u8], place: usize) -> usize
     place
 }
 
-// Puts the ends of all gates, each after its inputs.
+// Puts the ends of all gates, each after its inputs. The tree is read and the slices are written: two loans, no struct.
 pub fn put_gates(tree: &[u8], slices: &mut WorkSlices)
     requires { EventsStored billion tree.now (contents slices.old) }
     ensures same_slices { SameSlices slices.new slices.old }

@@ -1,23 +1,13 @@
 // The ends of an interval as a gate's fold goes by them.
 ghost use Rattle.std.specs.Prelude.{◌≡◌};
 ghost use Rattle.theory.specs.Unit.{billion};
-ghost use Rattle.theory.specs.GateFold.{by_kind, both_seen};
+ghost use Rattle.theory.specs.GateFold.{both_seen};
 ghost use Rattle.tree_file.specs.NodeTable.{kind_as};
 ghost use Rattle.rounding.specs.Ends.{enclosure, end_in, BothInUnits};
 
 use rounding::end::{Enclosure, End};
 use rounding::step::complement;
 use tree_file::node::GateKind;
-
-// Of two values, the one for an AND and the one for an OR.
-fn by_kind<T: Copy>(kind: GateKind, all: T, any: T) -> T
-    ensures { result ≡ by_kind (kind_as kind) all any }
-{
-    match kind {
-        GateKind::All => all,
-        GateKind::Any => any,
-    }
-}
 
 // The ends of an input or an answer as the fold goes by them: an OR goes by what is missing to 1, which turns the two
 // about. Each number is chosen by itself, since that takes no jump.
@@ -30,12 +20,12 @@ pub fn seen_ends(kind: GateKind, x: Enclosure) -> Enclosure
     let high = complement(x.lower);
     Enclosure {
         lower: End {
-            value: by_kind(kind, x.lower.value, low.value),
-            exact: by_kind(kind, x.lower.exact, low.exact),
+            value: kind.by_kind(x.lower.value, low.value),
+            exact: kind.by_kind(x.lower.exact, low.exact),
         },
         upper: End {
-            value: by_kind(kind, x.upper.value, high.value),
-            exact: by_kind(kind, x.upper.exact, high.exact),
+            value: kind.by_kind(x.upper.value, high.value),
+            exact: kind.by_kind(x.upper.exact, high.exact),
         },
     }
 }

@@ -1,5 +1,6 @@
 // The fields of a file: unsigned numbers, low byte first.
 // No generic reader: each of three is one line over the library, 24 bits have no type, and the results' types differ.
+// No struct of a slice and an offset: what must lie within the slice is another width for each.
 ghost use Rattle.std.specs.Prelude.{◌≡◌, ◌+◌, ◌<◌, length};
 ghost use Rattle.fields.specs.Fields.{byte, field16, field24, field32, Is16};
 

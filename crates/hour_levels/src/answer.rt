@@ -2,23 +2,20 @@
 use arrayvec::ArrayVec;
 use evaluation::slices::WorkSlices;
 use fields::fields::{field16_at, field32_at};
+use monitor::held::MOST_SHEET;
 use printer::print::{MOST_TEXT, print_levels};
-use program_text::held::{Held, MOST_SHEET, MOST_TREE};
+use program_text::held::{Held, LEVELS_HEAD, MOST_LEVELS_INPUT};
 use program_text::no_answer::NoAnswer;
 use program_text::read::{read_end, read_file, read_head, read_pair};
 use refusals::refusal::Refusal;
 use std::io;
 use std::io::Write;
 use tree_file::format::MAX_NODES;
+use work_windows::hour::BookAtHour;
 use work_windows::question::question_at_hour;
 
-// The level printer's input begins with n and the lengths of the tree and of the sheet, as the hour printer's does.
-const LEVELS_HEAD: usize = 6;
-
-const MOST_INPUT: usize = LEVELS_HEAD + MOST_TREE + MOST_SHEET;
-
-// Reads 16-bit n, tree length, sheet length and book length and a 32-bit hour, low byte first, then the tree, the sheet
-// and the book, and prints the levels of the hour.
+// Reads 16-bit n, tree length, sheet length and book length and a 32-bit hour, low byte first, then the tree, the
+// sheet and the book, and prints the levels of the hour. The head begins as the level printer's does.
 pub fn print_answer(rt: &(impl Input + Print)) -> Result<(), NoAnswer> {
     let head: [u8; 12] = read_head(rt)?;
     let pair = read_pair(rt, field16_at(&head, 2), field16_at(&head, 4))?;
@@ -26,8 +23,12 @@ pub fn print_answer(rt: &(impl Input + Print)) -> Result<(), NoAnswer> {
     let book = read_file(rt, field16_at(&head, 6), &mut book)?;
     read_end(rt)?;
     let held = pair?;
+    let at = BookAtHour {
+        book,
+        hour: field32_at(&head, 8),
+    };
     let n = field16_at(&head, 0) as u32;
-    let sheet = sheet_at_hour(&held, book, n, field32_at(&head, 8))?;
+    let sheet = sheet_at_hour(&held, at, n)?;
     let tree = &held.tree[..held.state.tree_len];
     print_text(
         rt,
@@ -39,31 +40,23 @@ pub fn print_answer(rt: &(impl Input + Print)) -> Result<(), NoAnswer> {
 }
 
 // The sheet that a question of level n of n leaves in its buffer.
-fn sheet_at_hour(held: &Held, book: &[u8], n: u32, hour: u32) -> Result<[u8; MOST_SHEET], Refusal> {
+fn sheet_at_hour(held: &Held, at: BookAtHour, n: u32) -> Result<[u8; MOST_SHEET], Refusal> {
     let mut sheet = [0; MOST_SHEET];
+    // Lent here, as printer does: there is no heap.
     let mut slices = WorkSlices {
         lower: &mut [0; MAX_NODES],
         upper: &mut [0; MAX_NODES],
         marks: &mut [0; MAX_NODES],
     };
-    let reply = question_at_hour(
-        held.state,
-        &held.tree,
-        &held.sheet,
-        book,
-        n,
-        n,
-        hour,
-        &mut sheet,
-        &mut slices,
-    );
+    let reply = question_at_hour(held.lent_pair(), at, n, n, &mut sheet, &mut slices);
     reply.outcome?;
     Ok(sheet)
 }
 
-// Prints the level printer's text for a tree and a sheet.
+// Prints the level printer's text for a tree and a sheet. The printer is lent a buffer, and answers how much of it is
+// text.
 fn print_text(rt: &impl Print, head: &[u8], tree: &[u8], sheet: &[u8]) -> io::Result<()> {
-    let mut input: ArrayVec<u8, MOST_INPUT> = ArrayVec::new();
+    let mut input: ArrayVec<u8, MOST_LEVELS_INPUT> = ArrayVec::new();
     input.write_all(head)?;
     input.write_all(tree)?;
     input.write_all(sheet)?;

@@ -12,7 +12,7 @@ fn read_input<'a>(rt: &impl Input, room: &'a mut [u8]) -> Result<&'a [u8], Wrong
     read_file(rt, length as usize, room)
 }
 
-// Prints the levels of an input.
+// Prints the levels of an input. The printer is lent a buffer, and answers how much of it is text.
 fn print_answer(rt: &impl Print, input: &[u8]) -> io::Result<()> {
     let mut text = [0u8; MOST_TEXT];
     if let Ok(length) = print_levels(input, &mut text) {
@@ -23,19 +23,18 @@ fn print_answer(rt: &impl Print, input: &[u8]) -> io::Result<()> {
 }
 
 // Answers each input up to the end of the stream, or to one that there is no room for. A proved loop has to end, so
-// there is a most number of inputs.
-fn run(rt: &(impl Input + Print)) -> io::Result<()> {
+// there is a most number of inputs; vectors says why the loop is not shared.
+fn run(rt: &(impl Input + Print)) {
     let mut room = [0u8; 65536];
     for _ in 0..100000u32 {
         let Ok(input) = read_input(rt, &mut room) else {
-            return Ok(());
+            return;
         };
-        print_answer(rt, input)?;
+        // Where a write fails, the stream is read on.
+        let _ = print_answer(rt, input);
     }
-    Ok(())
 }
 
 fn main(rt: HostRuntime) {
-    // A write that fails ends the stream.
-    let _ = run(&rt);
+    run(&rt);
 }

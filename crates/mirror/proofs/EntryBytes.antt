@@ -1,10 +1,11 @@
 -- The bytes of an entry, by those of its numbers, and what is read of them.
 use Prim.Native.Nat.{ℕ, ◌+◌, ◌<◌}
 use mathlib.Core.Path.{◌≡◌, refl, ap, ◌∙◌}
-use mathlib.Core.List.{List}
+use mathlib.Core.List.{List, [], ◌∷◌}
 use native.Mathlib.Nat.{add_assoc}
 use native.Mathlib.Omega.{arith}
 use lib.Dec.{lit<}
+use lib.ListN.{get_or}
 use Rattle.theory.specs.Trapezoid.{Trapezoid}
 use Rattle.fields.specs.Fields.{byte, bytes24, bytes32, field16, field24, field32}
 use Rattle.fields.proofs.Alike.{field24_alike, field32_alike}
@@ -56,3 +57,51 @@ module _ (file : List ℕ) (at : ℕ) (z : Trapezoid) where
         d = part_read 13 (lit< tt) z.d d refl i;
       };
     }
+
+-- Four numbers of four bytes each.
+pub four_numbers : (z : Trapezoid) (a b c d : List ℕ) → a ≡ bytes32 z.a → b ≡ bytes32 z.b → c ≡ bytes32 z.c
+    → d ≡ bytes32 z.d
+    → 0
+    ∷ get_or a 0 0
+    ∷ get_or a 1 0
+    ∷ get_or a 2 0
+    ∷ get_or a 3 0
+    ∷ get_or b 0 0
+    ∷ get_or b 1 0
+    ∷ get_or b 2 0
+    ∷ get_or b 3 0
+    ∷ get_or c 0 0
+    ∷ get_or c 1 0
+    ∷ get_or c 2 0
+    ∷ get_or c 3 0
+    ∷ get_or d 0 0
+    ∷ get_or d 1 0
+    ∷ get_or d 2 0
+    ∷ get_or d 3 0
+    ∷ []
+    ≡ numbers_entry z
+four_numbers z a b c d ea eb ec ed = rw (ea, eb, ec, ed) refl
+
+-- A denominator and four numerators of three bytes each.
+pub five_numbers : (z : Trapezoid) (den a b c d : List ℕ) → den ≡ bytes24 z.den → a ≡ bytes24 z.a
+    → b ≡ bytes24 z.b → c ≡ bytes24 z.c → d ≡ bytes24 z.d
+    → 2
+    ∷ get_or den 0 0
+    ∷ get_or den 1 0
+    ∷ get_or den 2 0
+    ∷ get_or a 0 0
+    ∷ get_or a 1 0
+    ∷ get_or a 2 0
+    ∷ get_or b 0 0
+    ∷ get_or b 1 0
+    ∷ get_or b 2 0
+    ∷ get_or c 0 0
+    ∷ get_or c 1 0
+    ∷ get_or c 2 0
+    ∷ get_or d 0 0
+    ∷ get_or d 1 0
+    ∷ get_or d 2 0
+    ∷ 0
+    ∷ []
+    ≡ fractions_entry z
+five_numbers z den a b c d e ea eb ec ed = rw (e, ea, eb, ec, ed) refl

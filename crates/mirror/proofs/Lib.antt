@@ -3,6 +3,7 @@
 pub mod DualKind
 pub mod EntryBytes
 pub mod PartsTurn
+pub mod TreeAsked
 pub mod SheetAsked
 pub mod TreeWritten
 pub mod TreeAccepted

@@ -44,6 +44,13 @@ module _ (at m : ℕ) (part : ℕ → List ℕ) (before : List ℕ) where
             ∙ simp (more, next, sized, append_assoc, add_assoc) refl;
       }
 
+-- All are written.
+pub writing_ends : (at m : ℕ) (part : ℕ → List ℕ) (count : ℕ) (before buffer : List ℕ) (i : ℕ) → i ≤ count
+    → buffer ≡ with_parts at m part i before → count ≤ i → buffer ≡ with_parts at m part count before
+writing_ends at m part count before buffer i within w l =
+    let all : i ≡ count = omega arith in
+    w ∙ ap (λ k. with_parts at m part k before) all
+
 -- The parts written over a copied file come to the file with these parts, and the rest of the buffer.
 pub parts_written : (at m : ℕ) (part : ℕ → List ℕ) (n : ℕ) (file buffer : List ℕ) → at + m * n ≤ length file
     → (copied : List ℕ) → copied ≡ take (length file) file ++ drop (length file) buffer

@@ -7,7 +7,7 @@ use Rattle.monitor.specs.Standing.{held_tree, held_sheet, pair_rules}
 use Rattle.monitor.specs.declared.state.State.{State}
 use Rattle.mirror.specs.Tree.{mirrored_tree}
 use Rattle.mirror.specs.Sheet.{mirrored_sheet}
-use Rattle.mirror.specs.declared.mirror.Reply.{Reply}
+use Rattle.monitor.specs.declared.state.Reply.{Reply}
 
 -- 31: a buffer is shorter than its held file.
 abbrev pub short_mirror : State → ℕ → ℕ → FirstFault
@@ -22,7 +22,7 @@ module _ (state : State) (tree_store sheet_store tree_buffer sheet_buffer : List
       ++ (short_mirror state (length tree_buffer) (length sheet_buffer) ∷ [])
 
   -- refused by the first fault, or mirrored; the state comes back as it was
-  unfoldable pub reply_of : Reply
+  unfoldable pub reply_of : Reply (Unit {0})
   reply_of = record { state = state; outcome = first_of mirror_rules }
 
   -- the mirrored files at the fronts of the buffers, as a hand-in leaves a file in its store

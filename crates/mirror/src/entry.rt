@@ -1,14 +1,14 @@
 // The mirrored entry of an event: the four numbers are what is missing to 1, in the other order.
 ghost use Rattle.std.specs.Prelude.{◌≡◌, ◌<◌, ◌≤◌, ◌-◌, ◌∷◌, ◌++◌, length, replicate};
 ghost use Rattle.theory.specs.Unit.{billion};
-ghost use Rattle.fields.specs.Fields.{bytes24};
+ghost use Rattle.fields.specs.Fields.{bytes32};
 ghost use Rattle.theory.specs.Dual.{trapezoid_complement};
 ghost use Rattle.opinion_sheet.specs.Format.{event_count};
 ghost use Rattle.opinion_sheet.specs.WellFormed.{WellFormed, WellFormedNumbers};
 ghost use Rattle.opinion_sheet.specs.EventCut.{fractions_trapezoid, numbers_trapezoid};
 ghost use Rattle.mirror.specs.Sheet.{fractions_entry, mirrored_entry, numbers_entry};
 
-use fields::write::{four_bytes, three_bytes};
+use fields::write::three_bytes;
 use opinion_sheet::entry::{Entry, read_entry};
 use opinion_sheet::format::ENTRY_LENGTH;
 use opinion_sheet::fractions::Fractions;
@@ -18,7 +18,7 @@ use opinion_sheet::numbers::Numbers;
 use rounding::unit::UNIT;
 
 // What is missing to `one` of four numbers that rise to it at most.
-fn missing(x: Numbers, one: u32) -> Numbers
+fn missing(x: Numbers<u64>, one: u64) -> Numbers<u64>
     requires { WellFormedNumbers one x }
     ensures { numbers_trapezoid one result ≡ trapezoid_complement (numbers_trapezoid one x) }
 {
@@ -52,19 +52,20 @@ fn padded_entry(kind: u8, held: &[u8]) -> [u8; ENTRY_LENGTH]
     entry
 }
 
-// The bytes of a number entry.
-fn numbers_entry(x: Numbers) -> [u8; ENTRY_LENGTH]
-    ensures { result ≡ numbers_entry (numbers_trapezoid billion x) }
+// The four low bytes of a number.
+fn low_bytes(n: u64) -> [u8; 4]
+    ensures { result ≡ bytes32 n }
 {
-    let numbers = [x.a, x.b, x.c, x.d].map(four_bytes);
-    padded_entry(EntryKind::Numbers as u8, numbers.as_flattened())
+    let [first, second, third, fourth, ..] = n.to_le_bytes();
+    [first, second, third, fourth]
 }
 
-// The three low bytes of a number.
-fn low_bytes(n: u32) -> [u8; 3]
-    ensures { result ≡ bytes24 n }
+// The bytes of a number entry.
+fn numbers_entry(x: Numbers<u64>) -> [u8; ENTRY_LENGTH]
+    ensures { result ≡ numbers_entry (numbers_trapezoid billion x) }
 {
-    three_bytes(u64::from(n))
+    let numbers = [x.a, x.b, x.c, x.d].map(low_bytes);
+    padded_entry(EntryKind::Numbers as u8, numbers.as_flattened())
 }
 
 // The bytes of a fraction entry.
@@ -72,7 +73,7 @@ fn fractions_entry(x: Fractions) -> [u8; ENTRY_LENGTH]
     ensures { result ≡ fractions_entry (fractions_trapezoid x) }
 {
     let n = x.numerators;
-    let numbers = [x.den, n.a, n.b, n.c, n.d].map(low_bytes);
+    let numbers = [x.den, n.a, n.b, n.c, n.d].map(three_bytes);
     padded_entry(EntryKind::Fractions as u8, numbers.as_flattened())
 }
 
@@ -82,7 +83,7 @@ pub fn mirrored_entry(sheet: &[u8], event: usize) -> [u8; ENTRY_LENGTH]
     ensures { result ≡ mirrored_entry sheet.now event }
 {
     match read_entry(sheet, event) {
-        Entry::Numbers(x) => numbers_entry(missing(x, UNIT as u32)),
+        Entry::Numbers(x) => numbers_entry(missing(x.into(), UNIT)),
         Entry::Opinions(terms) => fractions_entry(missing_fractions(mean_of(sheet, terms))),
         Entry::Fractions(x) => fractions_entry(missing_fractions(x)),
     }

@@ -1,10 +1,11 @@
-// The mirror of two files: reads a tree file and an opinion sheet on standard input, and writes the mirrored tree file
-// and after it the mirrored sheet, or a line that says why not. Where that fails, it says so on standard error.
+// The mirror of two files: reads a tree file and an opinion sheet on standard input, and writes the mirrored tree
+// file and after it the mirrored sheet, or a line that says why not. Where that fails, it says so on standard error.
 #![tactic(auto)]
 
 use fields::fields::field16_at;
 use mirror::mirror::mirror;
-use program_text::held::{Held, MOST_SHEET, MOST_TREE};
+use monitor::held::{MOST_SHEET, MOST_TREE};
+use program_text::held::Held;
 use program_text::no_answer::{NoAnswer, tell};
 use program_text::read::{read_end, read_head, read_pair};
 
@@ -12,7 +13,7 @@ use program_text::read::{read_end, read_head, read_pair};
 fn write_mirror(rt: &impl Print, held: &Held) -> Result<(), NoAnswer> {
     let mut tree = [0; MOST_TREE];
     let mut sheet = [0; MOST_SHEET];
-    let reply = mirror(held.state, &held.tree, &held.sheet, &mut tree, &mut sheet);
+    let reply = mirror(held.lent_pair(), &mut tree, &mut sheet);
     reply.outcome?;
     rt.write_all(&tree[..held.state.tree_len])?;
     rt.write_all(&sheet[..held.state.sheet_len])?;

@@ -6,6 +6,5 @@ mod call;
 mod run;
 
 fn main(rt: HostRuntime) {
-    // A write that fails ends the list.
-    let _ = run::run(&rt);
+    run::run(&rt);
 }

@@ -5,6 +5,7 @@ use mathlib.Core.List.{List}
 use native.Mathlib.Omega.{arith}
 use Rattle.theory.specs.Rounding.{Direction}
 use Rattle.tree_file.specs.Format.{node_count}
+use Rattle.tree_file.specs.Tallies.{event_count}
 use Rattle.tree_file.specs.Judged.{counts_of}
 use Rattle.tree_file.specs.declared.judgement.Counts.{Counts}
 use Rattle.rounding.specs.Ends.{enclosure}
@@ -51,15 +52,22 @@ module _ (tree sheet : List ℕ) (k n : ℕ) (before : Slices) (asked : Evaluabl
         same_long {n = node_count tree} {t = s} (λ p. refl) (omega arith) (left_long asked level es)
 
     -- what the root's place holds is the report
-    pub report_read : (s : Slices) → s ≡ after → (counts : Counts) → counts ≡ counts_of tree → (ends : Enclosure)
+    pub report_read : (s : Slices) → s ≡ after → (nodes : ℕ) → nodes ≡ node_count tree → (events : ℕ)
+        → events ≡ event_count tree → (ends : Enclosure) → ends ≡ enclosure (λ w. stored_end w s (nodes - 1))
+        → record { ends = ends; events = events } ≡ report_of (unit sheet) tree sheet k n
+    unfolding report_of
+    report_read s es nodes en events ee ends e =
+        let at_root : (w : Direction)
+        → stored_end w s (nodes - 1) ≡ node_end (unit sheet) w tree sheet k n (root tree) =
+        λ w. rw (es, en) (stored w (root tree) root_inside) in
+        λ i. record { ends = (e ∙ same_ends _ _ at_root) i; events = ee i }
+
+    -- so it is by what an accepted tree holds
+    pub report_counted : (s : Slices) → s ≡ after → (counts : Counts) → counts ≡ counts_of tree → (ends : Enclosure)
         → ends ≡ enclosure (λ w. stored_end w s (counts.nodes - 1))
         → record { ends = ends; events = counts.events } ≡ report_of (unit sheet) tree sheet k n
-    unfolding report_of
-    report_read s es counts ce ends e =
-        let at_root : (w : Direction)
-        → stored_end w s (counts.nodes - 1) ≡ node_end (unit sheet) w tree sheet k n (root tree) =
-        λ w. rw (es, ce) (stored w (root tree) root_inside) in
-        λ i. record { ends = (e ∙ same_ends _ _ at_root) i; events = (ce i).events }
+    report_counted s es counts ce ends e =
+        report_read s es counts.nodes (λ i. (ce i).nodes) counts.events (λ i. (ce i).events) ends e
 
     -- demands 2 and 3 of the report and of the slices
     pub answer_kept : Kept (unit sheet) (report_of (unit sheet) tree sheet k n) tree sheet k n after

@@ -1,7 +1,7 @@
 -- What taking in a file answers and leaves in its store, by the fault of the file and the length of the store, and what
 -- a hand-in answers then.
 use Prim.Native.Nat.{ℕ, ◌≤◌, ◌<◌}
-use mathlib.Core.Path.{◌≡◌, refl, ap, sym, ◌∙◌}
+use mathlib.Core.Path.{◌≡◌, refl, sym, ◌∙◌}
 use mathlib.Core.List.{List, ◌++◌}
 use lib.ListN.{length, take, drop}
 use lib.Seq.{take-length}
@@ -13,7 +13,6 @@ use Rattle.refusals.specs.declared.rule.Rule.TheVariants.{ShortStore}
 use Rattle.refusals.specs.declared.refusal.Refusal.{Refusal}
 use Rattle.refusals.proofs.FirstFault.{accepted_absent, refused_found}
 use Rattle.monitor.specs.declared.state.State.{State}
-use Rattle.monitor.specs.declared.hand_in.Answer.{Answer}
 use Rattle.monitor.specs.HandIn.{hand_in_fault, handed_answer, handed_store}
 
 module _ (fault : FirstFault) (file store : List ℕ) where
@@ -43,7 +42,7 @@ module _ (fault : FirstFault) (file store : List ℕ) where
       (e : r ≡ judged_by (hand_in_fault fault file store) (length file)) where
     -- the answer of a hand-in whose file is refused
     pub answered_refused : (q : Refusal) → r ≡ Err q
-        → record { state = before; verdict = Err q }
+        → record { state = before; outcome = Err q }
         ≡ handed_answer fault file store before (holding (length file))
     unfolding handed_answer
     answered_refused q w =
@@ -52,7 +51,7 @@ module _ (fault : FirstFault) (file store : List ℕ) where
 
     -- and of one whose file is taken in
     pub answered_taken : (n : ℕ) → r ≡ Ok n
-        → record { state = holding n; verdict = Ok tt }
+        → record { state = holding n; outcome = Ok tt }
         ≡ handed_answer fault file store before (holding (length file))
     unfolding handed_answer
     answered_taken n w =

@@ -1,6 +1,6 @@
 -- The standing of what is held, by what each part of the judging finds: one law for each return.
 use Prim.Native.Nat.{ℕ, ◌≤◌, ◌<◌}
-use mathlib.Core.Path.{◌≡◌, refl, sym, ap, ◌∙◌}
+use mathlib.Core.Path.{◌≡◌, sym, ap, ◌∙◌}
 use mathlib.Core.Bool.{Bool, true, false}
 use mathlib.Core.List.{List}
 use native.Mathlib.Omega.{arith}
@@ -42,9 +42,9 @@ module _ {C : Type 0} (place : ℕ) (fault : List ℕ → FirstFault) (counts : 
         rw (e, le-leb len (length store) l, found)
 
     -- one without a fault has not
-    pub changed_absent : (c : C) → j ≡ Ok c → Ok c ≡ stands
+    pub changed_none : (c : C) → j ≡ Ok c → Ok c ≡ stands
     unfolding changed
-    changed_absent c x =
+    changed_none c x =
         let own = accepted_absent _ _ c (sym je ∙ x) in
         rw (le-leb len (length store) l, own.0, own.1)
 
@@ -139,3 +139,17 @@ pub level_out_of_range : (state : State) (tree_store sheet_store : List ℕ) (k 
     → q ≡ refusal WrongLevel 0 → in_range k n ≡ false → Err q ≡ standing_of state tree_store sheet_store k n
 unfolding standing_of
 level_out_of_range state tree_store sheet_store k n q qe e = rw (qe, e)
+
+-- A file without a fault, held inside its store, has not changed.
+pub changed_absent : (place : ℕ) (fault : List ℕ → FirstFault) (len : ℕ) (store : List ℕ) → len ≤ length store
+    → fault (held len store) ≡ Ok tt → changed place fault len store ≡ Ok tt
+unfolding changed
+changed_absent place fault len store l e = rw (le-leb len (length store) l, e)
+
+-- A standing that is ready comes of no fault, with the tree's own counts.
+pub ready_absent : (f : FirstFault) (own c : Counts) → judged_by f own ≡ Ok c → (f ≡ Ok tt) × (c ≡ own)
+ready_absent f own c e = accepted_absent f own c e
+
+-- One that is refused comes of that fault.
+pub standing_found : (f : FirstFault) (own : Counts) (r : Refusal) → judged_by f own ≡ Err r → f ≡ Err r
+standing_found f own r e = refused_found f own r e

@@ -1,13 +1,13 @@
 -- What a question of a pair that is ready leaves in slices with a place for every node: the ends reported of each.
 use Prim.Native.Nat.{ℕ, ◌<◌}
-use mathlib.Core.Path.{◌≡◌, refl, ap, ◌∙◌}
+use mathlib.Core.Path.{◌≡◌, ap, ◌∙◌}
 use mathlib.Core.List.{List, [], ◌∷◌}
 use lib.ListN.{length}
 use borrow.Author.Tests.{le-leb}
 use Rattle.theory.specs.Rounding.{Direction}
 use Rattle.refusals.specs.FirstFault.{◌or_else◌, first_of}
 use Rattle.refusals.specs.FirstFault.{FirstFault}
-use Rattle.std.specs.Prelude.{Ok, Err}
+use Rattle.std.specs.Prelude.{Ok}
 use Rattle.refusals.proofs.FirstFault.{first_of_append}
 use Rattle.tree_file.specs.Format.{node_count}
 use Rattle.tree_file.specs.declared.judgement.Counts.{Counts}

@@ -6,16 +6,16 @@ use Rattle.refusals.specs.declared.rule.Rule.TheVariants.{ShortStore}
 use Rattle.tree_file.specs.Judged.{fault_of as tree_fault}
 use Rattle.opinion_sheet.specs.Judged.{fault_of as sheet_fault}
 use Rattle.monitor.specs.declared.state.State.{State}
-use Rattle.monitor.specs.declared.hand_in.Answer.{Answer}
+use Rattle.monitor.specs.declared.state.Reply.{Reply}
 
 -- A file is refused by its own fault; an accepted one must fit its store: 20 comes last.
 abbrev pub hand_in_fault : FirstFault → List ℕ → List ℕ → FirstFault
 hand_in_fault fault file store = first_of (fault ∷ unless (leb (length file) (length store)) ShortStore 0 ∷ [])
 
 -- The answer, by the state before and the state that holds the new file: a refusal changes nothing.
-abbrev pub answer_by : FirstFault → State → State → Answer
-answer_by (Err r) before after = record { state = before; verdict = Err r }
-answer_by (Ok tt) before after = record { state = after; verdict = Ok tt }
+abbrev pub answer_by : FirstFault → State → State → Reply (Unit {0})
+answer_by (Err r) before after = record { state = before; outcome = Err r }
+answer_by (Ok tt) before after = record { state = after; outcome = Ok tt }
 
 -- The store after: the file at its front and the rest unchanged, or as it was where the file is refused. A file longer
 -- than the store, whose bytes would run beyond it, is refused by 20.
@@ -24,7 +24,7 @@ store_by (Err r) file store = store
 store_by (Ok tt) file store = file ++ drop (length file) store
 
 -- The answer for a file with that first fault.
-unfoldable pub handed_answer : FirstFault → List ℕ → List ℕ → State → State → Answer
+unfoldable pub handed_answer : FirstFault → List ℕ → List ℕ → State → State → Reply (Unit {0})
 handed_answer fault file store before after = answer_by (hand_in_fault fault file store) before after
 
 -- Its store after.
@@ -39,8 +39,8 @@ holding_tree n state = record { tree_len = n; sheet_len = state.sheet_len }
 abbrev pub holding_sheet : ℕ → State → State
 holding_sheet n state = record { tree_len = state.tree_len; sheet_len = n }
 
--- What `hand_in_tree` answers.
-abbrev pub tree_answer : State → List ℕ → List ℕ → Answer
+-- What handing in a tree file answers.
+abbrev pub tree_answer : State → List ℕ → List ℕ → Reply (Unit {0})
 tree_answer state file store =
     handed_answer (tree_fault file) file store state (holding_tree (length file) state)
 
@@ -48,8 +48,8 @@ tree_answer state file store =
 abbrev pub tree_store : List ℕ → List ℕ → List ℕ
 tree_store file store = handed_store (tree_fault file) file store
 
--- What `hand_in_sheet` answers.
-abbrev pub sheet_answer : State → List ℕ → List ℕ → Answer
+-- What handing in a sheet answers.
+abbrev pub sheet_answer : State → List ℕ → List ℕ → Reply (Unit {0})
 sheet_answer state file store =
     handed_answer (sheet_fault file) file store state (holding_sheet (length file) state)
 

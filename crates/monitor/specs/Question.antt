@@ -11,7 +11,7 @@ use Rattle.evaluation.specs.Report.{node_enclosure, slices_after}
 use Rattle.monitor.specs.Standing.{held_tree, held_sheet, level_rules, short_slice}
 use Rattle.monitor.specs.declared.state.State.{State}
 use Rattle.monitor.specs.declared.question.Report.{Report}
-use Rattle.monitor.specs.declared.question.Reply.{Reply}
+use Rattle.monitor.specs.declared.state.Reply.{Reply}
 
 -- The root is the last node, N − 1: an accepted tree has N at least 1, so the subtraction never stops at 0.
 abbrev pub root : List ℕ → ℕ
@@ -43,7 +43,7 @@ module _ (state : State) (tree_store sheet_store : List ℕ) (k n : ℕ) (s : Sl
   outcome_of = judged_by (first_of question_rules) (report_of (unit sheet) tree sheet k n)
 
   -- the state comes back as it was
-  abbrev pub reply_of : Reply
+  abbrev pub reply_of : Reply Report
   reply_of = record { state = state; outcome = outcome_of }
 
   -- every node's ends at its place, the rest as it was

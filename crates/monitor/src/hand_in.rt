@@ -1,20 +1,12 @@
-// Handing in a tree file or an opinion sheet, and dropping both.
+// Handing in a tree file or an opinion sheet, each as a `HeldFile`, and dropping both.
 ghost use Rattle.std.specs.Prelude.{◌≡◌, length};
 ghost use Rattle.refusals.specs.FirstFault.{judged_by};
-ghost use Rattle.monitor.specs.HandIn.{hand_in_fault, handed_store, nothing_held};
-ghost use Rattle.monitor.specs.HandIn.{tree_answer, tree_store, sheet_answer, sheet_store};
+ghost use Rattle.monitor.specs.HandIn.{hand_in_fault, handed_answer, handed_store, nothing_held};
 
-use crate::held::{HeldFile, Sheet, Tree};
-use crate::state::State;
+use crate::held::HeldFile;
+use crate::state::{Reply, State};
 use refusals::refusal::Refusal;
 use refusals::rule::Rule;
-
-// What a hand-in answers: the state after it, also where it refuses, and why the file was refused, if it was.
-#[derive(Clone, Copy)]
-pub struct Answer {
-    pub state: State,
-    pub verdict: Result<(), Refusal>,
-}
 
 // Takes in a file: an accepted one is copied to the front of its store. Its length.
 fn take_in<F: HeldFile>(file: &[u8], store: &mut [u8]) -> Result<usize, Refusal>
@@ -28,36 +20,21 @@ fn take_in<F: HeldFile>(file: &[u8], store: &mut [u8]) -> Result<usize, Refusal>
     Ok(byte_copy::copy(file, store))
 }
 
-// Hands in a tree file: an accepted one is copied to the front of its store and replaces the one held.
-pub fn hand_in_tree(state: State, tree: &[u8], store: &mut [u8]) -> Answer
-    ensures value { result ≡ tree_answer state tree.now store.old }
-    ensures store_after { store.new ≡ tree_store tree.now store.old }
+// Hands in a file: an accepted one is copied to the front of its store and replaces the one held. The state and the
+// store are no `HeldTree`: this store is written.
+pub fn hand_in<F: HeldFile>(state: State, file: &[u8], store: &mut [u8]) -> Reply<()>
+    ensures value { result
+        ≡ handed_answer (F.fault file.now) file.now store.old state (F.holding (length file.now) state) }
+    ensures store_after { store.new ≡ handed_store (F.fault file.now) file.now store.old }
 {
-    match take_in::<Tree>(tree, store) {
-        Ok(tree_len) => Answer {
-            state: State { tree_len, ..state },
-            verdict: Ok(()),
+    match take_in::<F>(file, store) {
+        Ok(len) => Reply {
+            state: F::holding(state, len),
+            outcome: Ok(()),
         },
-        Err(refusal) => Answer {
+        Err(refusal) => Reply {
             state,
-            verdict: Err(refusal),
-        },
-    }
-}
-
-// Hands in an opinion sheet: an accepted one is copied to the front of its store and replaces the one held.
-pub fn hand_in_sheet(state: State, sheet: &[u8], store: &mut [u8]) -> Answer
-    ensures value { result ≡ sheet_answer state sheet.now store.old }
-    ensures store_after { store.new ≡ sheet_store sheet.now store.old }
-{
-    match take_in::<Sheet>(sheet, store) {
-        Ok(sheet_len) => Answer {
-            state: State { sheet_len, ..state },
-            verdict: Ok(()),
-        },
-        Err(refusal) => Answer {
-            state,
-            verdict: Err(refusal),
+            outcome: Err(refusal),
         },
     }
 }
@@ -66,8 +43,5 @@ pub fn hand_in_sheet(state: State, sheet: &[u8], store: &mut [u8]) -> Answer
 pub fn drop_both(_state: State) -> State
     ensures { result ≡ nothing_held }
 {
-    State {
-        tree_len: 0,
-        sheet_len: 0,
-    }
+    State::default()
 }

@@ -4,5 +4,6 @@
 pub mod hand_in;
 pub mod held;
 pub mod judge;
+pub mod lent;
 pub mod question;
 pub mod state;

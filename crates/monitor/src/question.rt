@@ -9,8 +9,9 @@ ghost use Rattle.monitor.specs.Standing.{held_tree, held_sheet};
 ghost use Rattle.monitor.specs.Question.{outcome_of, report_of, reply_of, slices_left};
 ghost use Rattle.monitor.specs.Promise.{PromisesKept};
 
-use crate::judge::{judge, judge_slices};
-use crate::state::State;
+use crate::judge::judge_slices;
+use crate::lent::HeldPair;
+use crate::state::Reply;
 use evaluation::evaluate::evaluate;
 use evaluation::slices::WorkSlices;
 use opinion_sheet::level::Level;
@@ -23,13 +24,6 @@ use tree_file::judgement::Counts;
 pub struct Report {
     pub ends: Enclosure,
     pub events: usize,
-}
-
-// What a question answers: the state, unchanged, and the outcome.
-#[derive(Clone, Copy)]
-pub struct Reply {
-    pub state: State,
-    pub outcome: Result<Report, Refusal>,
 }
 
 // Evaluates a pair that is ready and reads the root's place.
@@ -55,51 +49,48 @@ fn answered(
     Report { ends, events }
 }
 
-// What a question comes to, and what it leaves in the work slices.
-fn outcome(
-    state: State,
-    tree_store: &[u8],
-    sheet_store: &[u8],
-    k: u32,
-    n: u32,
-    slices: &mut WorkSlices,
-) -> Result<Report, Refusal>
-    ensures value { result ≡ outcome_of state tree_store.now sheet_store.now k n
-        (contents slices.old) }
-    ensures same_slices { SameSlices slices.new slices.old }
-    ensures work_slices { contents slices.new
-        ≡ slices_left state tree_store.now sheet_store.now k n
-        (contents slices.old) }
-    ensures promises_kept { PromisesKept billion result (held_tree state tree_store.now)
-        (held_sheet state sheet_store.now) k n
-        (contents slices.new) }
-{
-    let counts = judge(state, tree_store, sheet_store, k, n)?;
-    judge_slices(counts.nodes, slices)?;
-    let tree = &tree_store[..state.tree_len];
-    let sheet = &sheet_store[..state.sheet_len];
-    Ok(answered(tree, sheet, counts, Level { k, n }, slices))
-}
+impl HeldPair<'_> {
+    // What a question comes to, and what it leaves in the work slices.
+    fn outcome(self, k: u32, n: u32, slices: &mut WorkSlices) -> Result<Report, Refusal>
+        ensures value { result
+            ≡ outcome_of self.entry.state self.entry.tree_store.now self.entry.sheet_store.now k n
+            (contents slices.old) }
+        ensures same_slices { SameSlices slices.new slices.old }
+        ensures work_slices { contents slices.new
+            ≡ slices_left self.entry.state self.entry.tree_store.now self.entry.sheet_store.now k n
+            (contents slices.old) }
+        ensures promises_kept { PromisesKept billion result
+            (held_tree self.entry.state self.entry.tree_store.now)
+            (held_sheet self.entry.state self.entry.sheet_store.now) k n
+            (contents slices.new) }
+    {
+        let counts = self.judge_level(k, n)?;
+        judge_slices(counts.nodes, slices.stored())?;
+        let tree = &self.tree_store[..self.state.tree_len];
+        let sheet = &self.sheet_store[..self.state.sheet_len];
+        // judge_level answers the counts alone, as C has them: that there is a level follows from it.
+        Ok(answered(tree, sheet, counts, Level { k, n }, slices))
+    }
 
-// Questions level k of n. The last promise is demands 2 and 3, of the answer and of every node's place in the slices.
-pub fn question(
-    state: State,
-    tree_store: &[u8],
-    sheet_store: &[u8],
-    k: u32,
-    n: u32,
-    slices: &mut WorkSlices,
-) -> Reply
-    ensures value { result ≡ reply_of state tree_store.now sheet_store.now k n
-        (contents slices.old) }
-    ensures same_slices { SameSlices slices.new slices.old }
-    ensures work_slices { contents slices.new
-        ≡ slices_left state tree_store.now sheet_store.now k n
-        (contents slices.old) }
-    ensures promises_kept { PromisesKept billion result.outcome (held_tree state tree_store.now)
-        (held_sheet state sheet_store.now) k n
-        (contents slices.new) }
-{
-    let outcome = outcome(state, tree_store, sheet_store, k, n, slices);
-    Reply { state, outcome }
+    // Questions level k of n, which are any two numbers, as in `judge_level`: the state comes back as it was. The last
+    // promise is demands 2 and 3, of the answer and of every node's place in the slices.
+    pub fn question(self, k: u32, n: u32, slices: &mut WorkSlices) -> Reply<Report>
+        ensures value { result
+            ≡ reply_of self.entry.state self.entry.tree_store.now self.entry.sheet_store.now k n
+            (contents slices.old) }
+        ensures same_slices { SameSlices slices.new slices.old }
+        ensures work_slices { contents slices.new
+            ≡ slices_left self.entry.state self.entry.tree_store.now self.entry.sheet_store.now k n
+            (contents slices.old) }
+        ensures promises_kept { PromisesKept billion result.outcome
+            (held_tree self.entry.state self.entry.tree_store.now)
+            (held_sheet self.entry.state self.entry.sheet_store.now) k n
+            (contents slices.new) }
+    {
+        let outcome = self.outcome(k, n, slices);
+        Reply {
+            state: self.state,
+            outcome,
+        }
+    }
 }

@@ -5,11 +5,14 @@
 pub mod Bits
 pub mod Links
 pub mod LinkedSets
+pub mod ChoiceTurn
 pub mod Families
 pub mod Growth
 pub mod CountTurn
 pub mod GateInputs
 pub mod Parts
 pub mod Spreading
+pub mod BlockTurn
 pub mod Written
+pub mod InputWriting
 pub mod Enumerated

@@ -1,22 +1,13 @@
--- A counted node: its sets, the gate that it is, and its inputs.
+-- A counted node: its sets and its inputs.
 use Rattle.std.specs.Prelude.{ℕ, ◌≡◌}
 use Rattle.theory.specs.MinimalCutSets.{Family}
 use Rattle.tree_file.specs.Format.{link}
-use Rattle.tree_file.specs.NodeTable.{read_node}
-use Rattle.tree_file.specs.declared.node.Gate.{Gate}
-use Rattle.tree_file.specs.declared.node.GateKind.{GateKind}
-use Rattle.tree_file.specs.declared.node.Node.TheVariants as variant
 use Rattle.node_sets.specs.Requirements.{node_sets}
 use Rattle.node_sets.specs.declared.counted.CountedNode.{CountedNode}
 
 -- The sets of the node, numbered.
 abbrev pub sets_of : CountedNode → Family
 sets_of n = node_sets n.tree.now.file.now n.node
-
--- The node is this gate, of this kind.
-pub record GateOf (n : CountedNode) (k : GateKind) (g : Gate) : Type 0 where
-  pub read : read_node n.tree.now.file.now n.node ≡ variant.Gate g
-  pub kind_is : g.kind ≡ k
 
 -- Node m is the one that link j of node n's tree names, with the same counts.
 pub record InputOf (n : CountedNode) (j : ℕ) (m : CountedNode) : Type 0 where

@@ -1,4 +1,5 @@
-// Sets joined to those at the front of a slice, block by block.
+// Sets joined to those at the front of a slice, block by block. How many stand there is a number beside the slice,
+// since it is another at each input.
 ghost use Rattle.std.specs.Prelude.{◌+◌, ◌*◌, ◌≤◌, ◌<◌, length};
 ghost use Rattle.node_sets.specs.Counted.{sets_of};
 ghost use Rattle.node_sets.specs.Requirements.{Block, UnionsWritten};

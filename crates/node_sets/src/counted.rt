@@ -1,7 +1,11 @@
 // A node of a tree file with the counts of minimal cut sets at and beneath it.
+ghost use Rattle.std.specs.Prelude.{◌≡◌};
+ghost use Rattle.tree_file.specs.NodeTable.{read_node};
+ghost use Rattle.tree_file.specs.declared.node.Node.TheVariants.{Gate as AGate};
 ghost use Rattle.node_sets.specs.Requirements.{Countable, RightBeneath};
 
 use crate::inputs::input_at;
+use tree_file::node::Gate;
 
 // A tree file, and a place for the count of each of its nodes.
 #[derive(Clone, Copy)]
@@ -19,8 +23,15 @@ pub struct CountedNode<'a> {
     ghost right: { RightBeneath tree.now.file.now tree.now.counts.now node },
 }
 
+// A node of the tree that is a gate, as it is read.
+#[derive(Clone, Copy)]
+pub struct CountedGate<'a> {
+    pub node: CountedNode<'a>,
+    pub gate: Gate,
+    ghost read: { read_node node.tree.now.file.now node.node ≡ AGate gate },
+}
+
 impl<'a> CountedNode<'a> {
-    ghost use Rattle.std.specs.Prelude.{◌≡◌};
     ghost use Rattle.theory.specs.NodeTable.{Owns};
     ghost use Rattle.tree_file.specs.NodeTable.{table_of};
     ghost use Rattle.node_sets.specs.Counted.{InputOf, sets_of};

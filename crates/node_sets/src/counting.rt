@@ -7,8 +7,8 @@ ghost use Rattle.node_sets.specs.Requirements.{Countable, CountedBeneath};
 use crate::inputs::{input_at, joined, neutral};
 use tree_file::node::{Node, node_at};
 
-// Counts the minimal cut sets of node i and of every node beneath it, each to its place. Document 01 names this form; the
-// count is answered as well as kept, since the gate above joins it at once.
+// Counts the minimal cut sets of node i and of every node beneath it, each to its place. Document 01 names this form;
+// the count is answered as well as kept, since the gate above joins it at once.
 pub fn count_beneath(tree: &[u8], i: usize, counts: &mut [u64]) -> u64
     requires { Countable tree.now i counts.old }
     ensures value { result ≡ (family (fault_tree tree.now i)).count }

@@ -19,17 +19,14 @@ pub fn input_at(tree: &[u8], j: usize) -> usize
 }
 
 // The number of sets of a gate without inputs: the empty union for AND, no alternative for OR.
-// Functions, and no methods: GateKind is of another crate, and a trait for its sake alone would be longer.
 pub fn neutral(kind: GateKind) -> u64
     ensures { result ≡ neutral_count (kind_as kind) }
 {
-    match kind {
-        GateKind::All => 1,
-        GateKind::Any => 0,
-    }
+    kind.by_kind(1, 0)
 }
 
-// The number of sets with those of one input more: a union with each of them for AND, or one of them for OR.
+// The number of sets with those of one input more: a union with each of them for AND, or one of them for OR. A match:
+// of the two only one has room in 64 bits.
 pub fn joined(kind: GateKind, total: u64, count: u64) -> u64
     requires { joined_count (kind_as kind) total count < 2 ^ 64 }
     ensures { result ≡ joined_count (kind_as kind) total count }

@@ -1,36 +1,17 @@
--- A file is accepted exactly where it is well-formed, and the fault behind a judgement.
+-- A file is accepted exactly where it is well-formed.
 use Prim.Native.Nat.{ℕ}
-use mathlib.Core.Path.{◌≡◌, refl}
+use mathlib.Core.Path.{◌≡◌}
 use mathlib.Core.List.{List}
-use native.Mathlib.Omega.{arith}
-use Rattle.refusals.specs.declared.refusal.Refusal.{Refusal}
-use Rattle.refusals.specs.FirstFault.{FirstFault}
-use Rattle.std.specs.Prelude.{Ok, Err}
-use Rattle.refusals.proofs.FirstFault.{first_of_absent, among_each, among_absent}
+use Rattle.std.specs.Prelude.{Ok}
+use Rattle.refusals.proofs.FirstFault.{accepted_absent, first_of_absent, among_each, among_absent}
 use Rattle.opinion_sheet.specs.Format.{event_count, unit}
 use Rattle.opinion_sheet.specs.EntryRules.{entry_fault}
-use Rattle.opinion_sheet.specs.Judged.{counts_of, judged_by, rules, fault_of, judged}
+use Rattle.opinion_sheet.specs.Judged.{counts_of, rules, fault_of, judged}
 use Rattle.opinion_sheet.specs.WellFormed.{WellFormed}
 use Rattle.opinion_sheet.specs.declared.judgement.Counts.{Counts}
 use Rattle.opinion_sheet.proofs.HeaderLaws.{header_well_formed, header_absent}
 use Rattle.opinion_sheet.proofs.ScoreLaws.{scores_well_formed, scores_absent}
 use Rattle.opinion_sheet.proofs.EntryLaws.{entry_well_formed, entry_absent}
-
--- A judgement that refuses comes of that fault.
-pub refused_found : (fault : FirstFault) (read : Counts) (r : Refusal) → judged_by fault read ≡ Err r
-    → fault ≡ Err r
-refused_found (Err q) read r h = cc
-refused_found (Ok tt) read r h =
-    let z : ◌≡◌ {A = ℕ} 0 1 = cc in
-    absurd (omega arith)
-
--- A judgement that accepts comes of no fault, with the counts.
-pub accepted_absent : (fault : FirstFault) (read counts : Counts) → judged_by fault read ≡ Ok counts
-    → (fault ≡ Ok tt) × (counts ≡ read)
-accepted_absent (Ok tt) read counts h = (refl, cc)
-accepted_absent (Err r) read counts h =
-    let z : ◌≡◌ {A = ℕ} 0 1 = cc in
-    absurd (omega arith)
 
 module _ (file : List ℕ) where
   absent_well_formed : fault_of file ≡ Ok tt → WellFormed file

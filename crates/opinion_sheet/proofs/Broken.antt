@@ -15,7 +15,7 @@ use Rattle.refusals.specs.Order.{refusal, stage, order_place, Earlier, by_stage,
 use Rattle.refusals.specs.declared.rule.Rule.TheVariants as rule
 use Rattle.refusals.specs.declared.refusal.Refusal.{Refusal}
 use Rattle.std.specs.Prelude.{Ok, Err}
-use Rattle.refusals.proofs.FirstFault.{unless_holds, among_each}
+use Rattle.refusals.proofs.FirstFault.{accepted_absent, refused_found, unless_holds, among_each}
 use Rattle.refusals.proofs.Order.{first_unique}
 use Rattle.opinion_sheet.specs.Format.{has_letters, version, event_count, expert_count, required_length, score}
 use Rattle.opinion_sheet.specs.Format.{entry_at, kind, terms_at, term, unit}
@@ -33,7 +33,6 @@ use Rattle.opinion_sheet.specs.declared.numbers.Numbers.{Numbers}
 use Rattle.opinion_sheet.specs.declared.fractions.Fractions.{Fractions}
 use Rattle.opinion_sheet.specs.declared.judgement.Counts.{Counts}
 use Rattle.opinion_sheet.proofs.HeaderLaws.{header_well_formed}
-use Rattle.opinion_sheet.proofs.Accepted.{refused_found, accepted_absent}
 use Rattle.opinion_sheet.proofs.BrokenRules.{outside_says, outside_shows, score_says, score_shows, term_says}
 use Rattle.opinion_sheet.proofs.BrokenRules.{term_shows, silence_says, silence_shows, order_says, order_shows}
 use Rattle.opinion_sheet.proofs.BrokenRules.{fractions_says, fractions_shows}
@@ -160,7 +159,7 @@ module _ (file : List ℕ) (e : ℕ) where
   Kind =
       Case ((kind file e ≡ 0 → ⊥) × ((kind file e ≡ 1 → ⊥) × (kind file e ≡ 2 → ⊥))) rule.UnknownKind (entry_at file e)
 
-  abbrev four : Numbers
+  abbrev four : Numbers ℕ
   four = numbers_of file (entry_at file e)
 
   abbrev Falling : Refusal → Type 0

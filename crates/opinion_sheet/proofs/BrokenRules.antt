@@ -43,7 +43,7 @@ module _ (file : List ℕ) (terms n : ℕ) where
   pub silence_shows : ((i : ℕ) → i < n → term file terms i ≡ 0) → spoke_among file terms n ≡ false
   silence_shows silent = grind (arith, nat_tests, silent, speaker_among file terms n)
 
-module _ (U : ℕ) (x : Numbers) where
+module _ (U : ℕ) (x : Numbers ℕ) where
   pub order_says : numbers_rule U x ≡ false → WellFormedNumbers U x → ⊥
   order_says h w = grind (arith, nat_tests)
 

@@ -10,7 +10,7 @@ use Rattle.opinion_sheet.specs.EventCut.{numbers_trapezoid, outward}
 use Rattle.opinion_sheet.specs.declared.numbers.Numbers.{Numbers}
 
 -- Four numbers in units as whole numbers.
-abbrev pub whole_units : Numbers → Trapezoid
+abbrev pub whole_units : Numbers ℕ → Trapezoid
 whole_units x = record { den = 1; a = x.a; b = x.b; c = x.c; d = x.d }
 
 -- An end of their cut, counted in ones, is the end of the same over U, counted in units.
@@ -25,7 +25,7 @@ end_whole U units w y n h =
     })
 
 -- Their cut, counted in ones, is the cut of the same over U, counted in units.
-pub cut_whole : (U : ℕ) → 0 < U → (x : Numbers) (k n : ℕ) → 0 < n
+pub cut_whole : (U : ℕ) → 0 < U → (x : Numbers ℕ) (k n : ℕ) → 0 < n
     → outward 1 (cut (whole_units x) k n) ≡ outward U (cut (numbers_trapezoid U x) k n)
 unfolding cut
 cut_whole U units x k n h =

@@ -40,7 +40,7 @@ module _ (file : List ℕ) (U e : ℕ) (w : WellFormedEntry U file e) where
   pub kind_read : kind file e ≡ kind_number (entry_of file e)
   kind_read = grind (arith, nat_tests)
 
-  pub entry_numbers : {x : Numbers} → entry_of file e ≡ entry.Numbers x → WellFormedNumbers U x
+  pub entry_numbers : {x : Numbers ℕ} → entry_of file e ≡ entry.Numbers x → WellFormedNumbers U x
   entry_numbers {x} h =
       let z : kind file e ≡ 0 = kind_read ∙ ap kind_number h in
       let read : entry.Numbers (numbers_of file (entry_at file e)) ≡ entry.Numbers x =

@@ -35,7 +35,7 @@ rising_cuttable U units x rising most =
     }
 
 -- Four numbers in units of which U make 1 rise to at most 1.
-numbers_rising : (U : ℕ) → 0 < U → (x : Numbers) → WellFormedNumbers U x → Rising (numbers_trapezoid U x)
+numbers_rising : (U : ℕ) → 0 < U → (x : Numbers ℕ) → WellFormedNumbers U x → Rising (numbers_trapezoid U x)
 numbers_rising U units x w =
     record { a_b = w.a_b; b_c = w.b_c; c_d = w.c_d; d_den = w.d_unit; positive = units }
 

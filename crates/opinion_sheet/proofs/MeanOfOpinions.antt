@@ -34,7 +34,7 @@ sums_of os =
     }
 
 -- The four numbers of a trapezoid without their denominator.
-abbrev pub four : Trapezoid → Numbers
+abbrev pub four : Trapezoid → Numbers ℕ
 four z = record { a = z.a; b = z.b; c = z.c; d = z.d }
 
 -- A term's numbers in hundredths, a, b = c, d; the table has a row for each term.
@@ -84,7 +84,7 @@ said_opinion given code h = go (dec_lt 0 code)
     go (no l) = rw (eq-eqb code 0 (omega arith))
 
 -- Four numbers of at most 100, as those of an opinion are.
-abbrev pub Hundredths : Numbers → Type 0
+abbrev pub Hundredths : Numbers ℕ → Type 0
 Hundredths numbers =
     (numbers.a ≤ 100) × (numbers.b ≤ 100) × (numbers.c ≤ 100) × (numbers.d ≤ 100)
 
@@ -133,6 +133,12 @@ module _ (file : List ℕ) (terms : ℕ) where
       go earlier (no k) =
           let here : i ≡ n = omega arith in
           omega (arith, ap (score file) here, total_more n)
+
+  -- Of no expert each sum is 0.
+  pub summed_none : record { scores = 0; weighted = record { a = 0; b = 0; c = 0; d = 0 } }
+      ≡ sums_of (opinions_among file terms 0)
+  unfolding opinions_among
+  summed_none = refl
 
   -- The sums with the next expert's opinion, by its bytes.
   pub sums_more : (i : ℕ) → term file terms i ≤ 7

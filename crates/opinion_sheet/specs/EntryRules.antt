@@ -1,7 +1,8 @@
 -- The entries: what each holds, and its fault, refusals 6, 10 to 12 and 28. U is the unit of the numbers.
-use Rattle.std.specs.Prelude.{ℕ, ◌+◌, List, Bool, cond, ◌&&◌, leb, eqb, Option, Some, None, Err}
+use Rattle.std.specs.Prelude.{ℕ, ◌+◌, List, Bool, cond, ◌&&◌, leb, eqb, Result, Ok, Err}
 use Rattle.fields.specs.Fields.{byte, field24, field32}
 use Rattle.refusals.specs.FirstFault.{FirstFault, unless, first_among}
+use Rattle.refusals.specs.declared.rule.Rule.{Rule}
 use Rattle.refusals.specs.declared.rule.Rule.TheVariants as rule
 use Rattle.opinion_sheet.specs.Format.{entry_at, event_count, kind, numbers_kind, opinions_kind, fractions_kind}
 use Rattle.opinion_sheet.specs.Format.{terms_at, max_denominator}
@@ -14,14 +15,15 @@ use Rattle.opinion_sheet.specs.declared.entry.Entry.TheVariants as entry
 use Rattle.opinion_sheet.specs.declared.kind.EntryKind.{EntryKind}
 use Rattle.opinion_sheet.specs.declared.kind.EntryKind.TheVariants as kinds
 
--- The kind of a kind byte, if it is one.
-abbrev pub kind_of : ℕ → Option EntryKind
+-- The kind of a kind byte: 0 to 2, and rule 6 for any other.
+abbrev pub kind_of : ℕ → Result EntryKind Rule
 kind_of byte =
-    cond (eqb byte numbers_kind) (Some kinds.Numbers)
-    (cond (eqb byte opinions_kind) (Some kinds.Opinions) (cond (eqb byte fractions_kind) (Some kinds.Fractions) None))
+    cond (eqb byte numbers_kind) (Ok kinds.Numbers)
+    (cond (eqb byte opinions_kind) (Ok kinds.Opinions)
+    (cond (eqb byte fractions_kind) (Ok kinds.Fractions) (Err rule.UnknownKind)))
 
 -- The four numbers of the number entry at a place.
-abbrev pub numbers_of : List ℕ → ℕ → Numbers
+abbrev pub numbers_of : List ℕ → ℕ → Numbers ℕ
 numbers_of file at =
     record {
       a = field32 file (at + 1);
@@ -47,8 +49,8 @@ fractions_of file at =
 abbrev pub last_byte : List ℕ → ℕ → ℕ
 last_byte file at = byte file (at + 16)
 
--- The entry of an event: entry kind 0 gives four numbers, kind 1 opinions, kind 2 fractions. Any other kind would read
--- as fractions, but rule 6 excludes it.
+-- The entry of an event: entry kind 0 gives four numbers, kind 1 opinions, kind 2 fractions. Any other kind would
+-- read as fractions, but rule 6 excludes it.
 abbrev pub entry_of : List ℕ → ℕ → Entry
 entry_of file event =
     cond (eqb (kind file event) numbers_kind) (entry.Numbers (numbers_of file (entry_at file event)))
@@ -56,7 +58,7 @@ entry_of file event =
     (entry.Fractions (fractions_of file (entry_at file event))))
 
 -- Four numbers rise and are at most U.
-abbrev pub numbers_rule : ℕ → Numbers → Bool
+abbrev pub numbers_rule : ℕ → Numbers ℕ → Bool
 numbers_rule U x = leb x.a x.b && leb x.b x.c && leb x.c x.d && leb x.d U
 
 -- The fault of the number entry at a place.

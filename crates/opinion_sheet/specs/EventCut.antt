@@ -15,7 +15,7 @@ use Rattle.opinion_sheet.specs.declared.entry.Entry.{Entry}
 use Rattle.opinion_sheet.specs.declared.entry.Entry.TheVariants as entry
 
 -- Four numbers in units of which U make 1 are fractions over U.
-abbrev pub numbers_trapezoid : ℕ → Numbers → Trapezoid
+abbrev pub numbers_trapezoid : ℕ → Numbers ℕ → Trapezoid
 numbers_trapezoid U x = record { den = U; a = x.a; b = x.b; c = x.c; d = x.d }
 
 -- Four numerators over a denominator are fractions as they stand.

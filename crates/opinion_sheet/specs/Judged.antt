@@ -1,6 +1,6 @@
 -- What judging answers, whatever the bytes: the first fault in the order of document 01, or acceptance with the counts.
-use Rattle.std.specs.Prelude.{ℕ, List, [], ◌∷◌, Result, Ok, Err}
-use Rattle.refusals.specs.FirstFault.{FirstFault, first_of}
+use Rattle.std.specs.Prelude.{ℕ, List, [], ◌∷◌, Result}
+use Rattle.refusals.specs.FirstFault.{FirstFault, first_of, judged_by}
 use Rattle.refusals.specs.declared.refusal.Refusal.{Refusal}
 use Rattle.opinion_sheet.specs.Format.{tree_number, event_count, expert_count, unit}
 use Rattle.opinion_sheet.specs.HeaderRules.{header_fault}
@@ -11,11 +11,6 @@ use Rattle.opinion_sheet.specs.declared.judgement.Counts.{Counts}
 -- What an accepted file holds.
 abbrev pub counts_of : List ℕ → Counts
 counts_of file = record { number = tree_number file; events = event_count file; experts = expert_count file }
-
--- The answer by the fault: refused with it, or accepted with the counts where it is absent.
-abbrev pub judged_by : FirstFault → Counts → Result Counts Refusal
-judged_by (Err r) counts = Err r
-judged_by (Ok tt) counts = Ok counts
 
 -- The faults of a file's parts, in order.
 abbrev pub rules : List ℕ → List FirstFault

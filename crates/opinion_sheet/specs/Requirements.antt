@@ -23,7 +23,7 @@ pub record OpinionsInside (file : List ℕ) (terms : ℕ) : Type 0 where
   pub score_least : 1 ≤ total_score (opinions_among file terms (expert_count file))
 
 -- The sums leave room in 32 bits for one opinion more, whose numbers are at most 100.
-pub record SumsRoom (sums : Sums) (numbers : Numbers) (given : ℕ) : Type 0 where
+pub record SumsRoom (sums : Sums) (numbers : Numbers ℕ) (given : ℕ) : Type 0 where
   pub scores_room : sums.scores ≤ 1_000_000
   pub a_room : sums.weighted.a ≤ 1_000_000
   pub b_room : sums.weighted.b ≤ 1_000_000

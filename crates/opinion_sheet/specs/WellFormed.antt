@@ -32,7 +32,7 @@ pub record WellFormedScores (file : List ℕ) : Type 0 where
   pub score_after : (i : ℕ) → expert_count file ≤ i → i < expert_places → score file i ≡ 0
 
 -- Four numbers, in units of which U make 1: a ≤ b ≤ c ≤ d ≤ U.
-pub record WellFormedNumbers (U : ℕ) (x : Numbers) : Type 0 where
+pub record WellFormedNumbers (U : ℕ) (x : Numbers ℕ) : Type 0 where
   pub a_b : x.a ≤ x.b
   pub b_c : x.b ≤ x.c
   pub c_d : x.c ≤ x.d

@@ -24,22 +24,22 @@ fn cut_of(x: Fractions, units: u64, level: Level) -> Enclosure
 {
     let (k, n) = (level.k as u64, level.n as u64);
     let Numbers { a, b, c, d } = x.numerators;
-    let low = (a as u64 * n + (b - a) as u64 * k) * units;
-    let high = (d as u64 * n - (d - c) as u64 * k) * units;
-    let den = x.den as u64 * n;
+    let low = (a * n + (b - a) * k) * units;
+    let high = (d * n - (d - c) * k) * units;
+    let den = x.den * n;
     let lower = divided(Direction::Down, low, den);
     let upper = divided(Direction::Up, high, den);
     Enclosure { lower, upper }
 }
 
 // The cut of four numbers in units: whole numbers of them need no denominator.
-fn cut_numbers(x: Numbers, level: Level) -> Enclosure
+fn cut_numbers(x: Numbers<u32>, level: Level) -> Enclosure
     requires { WellFormedNumbers billion x }
     ensures { result ≡ outward billion (cut (numbers_trapezoid billion x) level.k level.n) }
 {
     let whole = Fractions {
         den: 1,
-        numerators: x,
+        numerators: x.into(),
     };
     cut_of(whole, 1, level)
 }

@@ -6,19 +6,16 @@ ghost use Rattle.opinion_sheet.specs.Format.{entry_at, entry_length};
 ghost use Rattle.opinion_sheet.specs.EntryRules.{entry_of, entry_fault};
 ghost use Rattle.opinion_sheet.specs.Requirements.{EntryInside};
 
-use crate::format::{ENTRY_LENGTH, HEADER_LENGTH};
-use crate::fractions::{Fractions, judge_fractions, read_fractions};
+use crate::fractions::Fractions;
 use crate::kind::EntryKind;
-use crate::numbers::{Numbers, judge_numbers, read_numbers};
-use crate::opinions::judge_opinions;
-use fields::fields::byte_at;
+use crate::numbers::Numbers;
+use crate::place::EntryPlace;
 use refusals::refusal::Refusal;
-use refusals::rule::Rule;
 
 // An entry as read: its four numbers, the offset of its terms, or its fractions.
 #[derive(Clone, Copy)]
 pub enum Entry {
-    Numbers(Numbers),
+    Numbers(Numbers<u32>),
     Opinions(usize),
     Fractions(Fractions),
 }
@@ -28,11 +25,11 @@ pub fn read_entry(file: &[u8], event: usize) -> Entry
     requires { entry_at file.now event + entry_length file.now ≤ length file.now }
     ensures { result ≡ entry_of file.now event }
 {
-    let at = HEADER_LENGTH + ENTRY_LENGTH * event;
-    match EntryKind::from_byte(byte_at(file, at)) {
-        Some(EntryKind::Numbers) => Entry::Numbers(read_numbers(file, at)),
-        Some(EntryKind::Opinions) => Entry::Opinions(at + 1),
-        _ => Entry::Fractions(read_fractions(file, at)),
+    let place = EntryPlace::of_event(file, event);
+    match place.kind() {
+        Ok(EntryKind::Numbers) => Entry::Numbers(place.read_numbers()),
+        Ok(EntryKind::Opinions) => Entry::Opinions(place.at + 1),
+        _ => Entry::Fractions(place.read_fractions()),
     }
 }
 
@@ -41,16 +38,17 @@ pub fn judge_entry(file: &[u8], event: usize) -> Result<(), Refusal>
     requires { EntryInside file.now (entry_at file.now event) }
     ensures { result ≡ entry_fault billion file.now event }
 {
-    let at = HEADER_LENGTH + ENTRY_LENGTH * event;
-    match EntryKind::from_byte(byte_at(file, at)) {
-        Some(EntryKind::Numbers) => judge_numbers(file, at),
-        Some(EntryKind::Opinions) => judge_opinions(file, at),
-        Some(EntryKind::Fractions) => judge_fractions(file, at),
-        None => Err(Rule::UnknownKind.at(at)),
+    let place = EntryPlace::of_event(file, event);
+    match place.kind() {
+        Ok(EntryKind::Numbers) => place.judge_numbers(),
+        Ok(EntryKind::Opinions) => place.judge_opinions(),
+        Ok(EntryKind::Fractions) => place.judge_fractions(),
+        Err(rule) => Err(rule.at(place.at)),
     }
 }
 
-// The first fault among the entries of some events.
+// The first fault among the entries of some events. A `for` with `?`, as for terms, scores and windows: one for all would
+// take the rule as a closure, and be no shorter.
 #[tactic(auto, using(crate::proofs::Rows::row))]
 pub fn judge_entries(file: &[u8], events: usize) -> Result<(), Refusal>
     requires { entry_at file.now events ≤ length file.now }

@@ -36,7 +36,7 @@ pub const MAX_SCORE: usize = 100;
 pub const MAX_TERM: usize = 7;
 
 // The highest denominator of fractions.
-pub const MAX_DENOMINATOR: u32 = 1_000_000;
+pub const MAX_DENOMINATOR: u64 = 1_000_000;
 
 // Whether the file begins with FTS.
 pub fn has_letters(file: &[u8]) -> bool
@@ -45,7 +45,10 @@ pub fn has_letters(file: &[u8]) -> bool
     file.starts_with(b"FTS")
 }
 
-// E, the number of basic events.
+// Seven functions ask for a header, two here and those of scores.rt and opinions.rt: a type for it would be made at each
+// call, and is no shorter.
+
+// E, the number of basic events: no `u16`, as fields reads it, since it is a count where it is used.
 pub fn event_count(file: &[u8]) -> usize
     requires { header_length ≤ length file.now }
     ensures { Is16 result (event_count file.now) }

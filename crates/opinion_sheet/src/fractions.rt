@@ -1,10 +1,10 @@
 // Four numerators over one denominator, and the entry that gives them: refusal 28.
-ghost use Rattle.std.specs.Prelude.{◌≡◌, ◌+◌, ◌≤◌, length};
-ghost use Rattle.opinion_sheet.specs.Format.{entry_length};
+ghost use Rattle.std.specs.Prelude.{◌≡◌};
 ghost use Rattle.opinion_sheet.specs.EntryRules.{fractions_of, fractions_rule, fractions_fault};
 
 use crate::format::MAX_DENOMINATOR;
 use crate::numbers::Numbers;
+use crate::place::EntryPlace;
 use fields::fields::{byte_at, field24_at};
 use refusals::refusal::Refusal;
 use refusals::rule::Rule;
@@ -12,25 +12,8 @@ use refusals::rule::Rule;
 // Four numerators over one denominator.
 #[derive(Clone, Copy)]
 pub struct Fractions {
-    pub den: u32,
-    pub numerators: Numbers,
-}
-
-// The fractions of the entry at a place. A number entry has its own reader: no width and no offset is the same.
-#[tactic(auto, unfolding(fields::specs::Fields::field24))]
-pub fn read_fractions(file: &[u8], at: usize) -> Fractions
-    requires { at + entry_length file.now ≤ length file.now }
-    ensures { result ≡ fractions_of file.now at }
-{
-    let den = field24_at(file, at + 1) as u32;
-    let a = field24_at(file, at + 4) as u32;
-    let b = field24_at(file, at + 7) as u32;
-    let c = field24_at(file, at + 10) as u32;
-    let d = field24_at(file, at + 13) as u32;
-    Fractions {
-        den,
-        numerators: Numbers { a, b, c, d },
-    }
+    pub den: u64,
+    pub numerators: Numbers<u64>,
 }
 
 // Whether fractions, with the last byte of their entry, are in rule.
@@ -42,15 +25,33 @@ pub fn fractions_rule(x: Fractions, last: usize) -> bool
     rising & in_range & (last == 0)
 }
 
-// The fault of the fraction entry at a place, which is the same whatever is wrong with it.
-pub fn judge_fractions(file: &[u8], at: usize) -> Result<(), Refusal>
-    requires { at + entry_length file.now ≤ length file.now }
-    ensures { result ≡ fractions_fault file.now at }
-{
-    let last_place = at + 16;
-    let last = byte_at(file, last_place);
-    if fractions_rule(read_fractions(file, at), last) {
-        return Ok(());
+impl EntryPlace<'_> {
+    // The fractions of the entry there. A number entry has its own reader: one for both would take the width of a field,
+    // its reader and whether a denominator comes first, and be longer.
+    #[tactic(auto, unfolding(fields::specs::Fields::field24))]
+    pub fn read_fractions(self) -> Fractions
+        ensures { result ≡ fractions_of self.entry.file.now self.entry.at }
+    {
+        let den = field24_at(self.file, self.at + 1);
+        let a = field24_at(self.file, self.at + 4);
+        let b = field24_at(self.file, self.at + 7);
+        let c = field24_at(self.file, self.at + 10);
+        let d = field24_at(self.file, self.at + 13);
+        Fractions {
+            den,
+            numerators: Numbers { a, b, c, d },
+        }
     }
-    Err(Rule::WrongFractions.at(at))
+
+    // The fault of the fraction entry there, which is the same whatever is wrong with it.
+    pub fn judge_fractions(self) -> Result<(), Refusal>
+        ensures { result ≡ fractions_fault self.entry.file.now self.entry.at }
+    {
+        let last_place = self.at + 16;
+        let last = byte_at(self.file, last_place);
+        if fractions_rule(self.read_fractions(), last) {
+            return Ok(());
+        }
+        Err(Rule::WrongFractions.at(self.at))
+    }
 }

@@ -11,7 +11,8 @@ use fields::fields::field16_at;
 use refusals::refusal::Refusal;
 use refusals::rule::Rule;
 
-// The first fault of the header.
+// The first fault of the header. Its first rules are a tree file's too, with other letters and lengths: one function for
+// them would be told what two say by their constants.
 #[tactic(auto, using(crate::proofs::HeaderLaws::header_well_formed), unfolding(crate::specs::HeaderRules::header_fault))]
 pub fn judge_header(file: &[u8]) -> Result<(), Refusal>
     ensures first { result ≡ header_fault file.now }

@@ -2,6 +2,8 @@
 ghost use Rattle.std.specs.Prelude.{◌≡◌};
 ghost use Rattle.opinion_sheet.specs.EntryRules.{kind_of};
 
+use refusals::rule::Rule;
+
 // What an entry gives, numbered as its kind byte: four numbers, opinions or fractions.
 #[derive(Clone, Copy)]
 pub enum EntryKind {
@@ -10,16 +12,17 @@ pub enum EntryKind {
     Fractions = 2,
 }
 
-impl EntryKind {
-    // The kind of a kind byte, if it is one.
-    pub fn from_byte(byte: usize) -> Option<EntryKind>
-        ensures { result ≡ kind_of byte }
-    {
+impl TryFrom<usize> for EntryKind {
+    type Error = Rule;
+
+    ghost try_from_gives = { λ byte kind. kind ≡ kind_of byte };
+
+    fn try_from(byte: usize) -> Result<EntryKind, Rule> {
         match byte {
-            0 => Some(EntryKind::Numbers),
-            1 => Some(EntryKind::Opinions),
-            2 => Some(EntryKind::Fractions),
-            _ => None,
+            0 => Ok(EntryKind::Numbers),
+            1 => Ok(EntryKind::Opinions),
+            2 => Ok(EntryKind::Fractions),
+            _ => Err(Rule::UnknownKind),
         }
     }
 }

@@ -19,7 +19,7 @@ impl Level {
         ensures exactly { IsSome result ↔ IsLevel k n }
         ensures same { IfSome result (λ level. (level.k ≡ k) × (level.n ≡ n)) }
     {
-        if (1 <= n) & (n <= MAX_LEVELS) & (k <= n) {
+        if (1..=MAX_LEVELS).contains(&n) & (k <= n) {
             return Some(Level { k, n });
         }
         None

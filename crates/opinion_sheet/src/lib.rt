@@ -1,6 +1,6 @@
-// The opinion sheet: its first fault or its counts, an entry read, the mean of opinions, and the alpha-cut of an entry.
-// The main functions are `judge::judge` and `cut::cut_at`: specs/Judged.antt and specs/EventCut.antt say what each
-// answers.
+// The opinion sheet: its first fault or its counts, an entry read, the mean of opinions, and the alpha-cut of an
+// entry. The main functions are `judge::judge` and `cut::cut_at`: specs/Judged.antt and specs/EventCut.antt say what
+// each answers.
 #![tactic(auto)]
 
 pub mod cut;
@@ -15,5 +15,6 @@ pub mod level;
 pub mod mean;
 pub mod numbers;
 mod opinions;
+pub mod place;
 mod scores;
 mod terms;

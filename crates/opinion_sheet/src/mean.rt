@@ -14,23 +14,23 @@ use crate::terms::TERMS;
 use fields::fields::byte_at;
 
 // Silence in hundredths: all from 0 to 1 stays fully possible.
-pub const SILENCE: Numbers = Numbers {
+pub const SILENCE: Numbers<u32> = Numbers {
     a: 0,
     b: 0,
     c: 100,
     d: 100,
 };
 
-// The sum of the scores, and of score × value for the opinions' four numbers, in hundredths. No fractions yet: 100 × the
-// scores is reckoned once, and not once an opinion.
+// The sum of the scores, and of score × value for the opinions' four numbers, in hundredths. No fractions yet: 100 ×
+// the scores is reckoned once, and not once an opinion.
 #[derive(Clone, Copy, Default)]
-struct Sums {
-    scores: u32,
-    weighted: Numbers,
+pub struct Sums {
+    pub scores: u32,
+    pub weighted: Numbers<u32>,
 }
 
 // The four numbers of a term, by its row.
-fn row_numbers(row: [u32; 3]) -> Numbers
+pub fn row_numbers(row: [u32; 3]) -> Numbers<u32>
     ensures { result ≡ row_numbers row }
 {
     Numbers {
@@ -41,19 +41,8 @@ fn row_numbers(row: [u32; 3]) -> Numbers
     }
 }
 
-// The four numbers of what is said by a term code, silence or a row of the table.
-fn said_numbers(rows: &[[u32; 3]; 7], term: usize) -> Numbers
-    requires { term ≤ max_term }
-    ensures { result ≡ said_numbers rows.now term }
-{
-    if term == 0 {
-        return SILENCE;
-    }
-    row_numbers(rows[term - 1])
-}
-
 // The sums with one opinion more, by its four numbers.
-fn with_opinion(sums: Sums, numbers: Numbers, score: u32) -> Sums
+pub fn with_opinion(sums: Sums, numbers: Numbers<u32>, score: u32) -> Sums
     requires { SumsRoom sums numbers score }
     ensures { result ≡ with_opinion sums numbers score }
 {
@@ -69,19 +58,31 @@ fn with_opinion(sums: Sums, numbers: Numbers, score: u32) -> Sums
     }
 }
 
+// The sums with what is said by a term code, silence or a row of the table. Each has a call of its own, so that the b
+// and c of a row are weighted once.
+fn with_said(sums: Sums, rows: &[[u32; 3]; 7], term: usize, score: u32) -> Sums
+    requires { (term ≤ max_term) × SumsRoom sums (said_numbers rows.now term) score }
+    ensures { result ≡ with_opinion sums (said_numbers rows.now term) score }
+{
+    if term == 0 {
+        return with_opinion(sums, SILENCE, score);
+    }
+    with_opinion(sums, row_numbers(rows[term - 1]), score)
+}
+
 // The mean by its sums, of at least one opinion: four fractions, and nothing is rounded.
-fn mean_by(sums: Sums) -> Fractions
-    requires { (1 ≤ sums.scores) × (sums.scores ≤ 1_000_000) }
+pub fn mean_by(sums: Sums) -> Fractions
+    requires { 1 ≤ sums.scores }
     ensures { result ≡ mean_by sums }
 {
     Fractions {
-        den: 100 * sums.scores,
-        numerators: sums.weighted,
+        den: 100 * sums.scores as u64,
+        numerators: sums.weighted.into(),
     }
 }
 
 // The mean of the opinions whose terms begin at a place. The table stands on the stack once, not once an opinion.
-#[tactic(auto, unfolding(crate::specs::Opinion::opinions_among))]
+#[tactic(auto, using(crate::proofs::MeanOfOpinions::summed_none))]
 pub fn mean_of(file: &[u8], terms: usize) -> Fractions
     requires { OpinionsInside file.now terms }
     ensures { fractions_trapezoid result
@@ -93,7 +94,7 @@ pub fn mean_of(file: &[u8], terms: usize) -> Fractions
     for expert in 0..experts {
         let term = byte_at(file, terms + expert);
         let score = byte_at(file, SCORES_PLACE + expert) as u32;
-        sums = with_opinion(sums, said_numbers(&rows, term), score);
+        sums = with_said(sums, &rows, term, score);
     }
     mean_by(sums)
 }

@@ -18,9 +18,8 @@ use Rattle.monitor.specs.HandIn.{holding_sheet, tree_answer, tree_store, sheet_a
 use Rattle.monitor.specs.Standing.{changed, held_tree, held_sheet, level_fault, no_tree, no_sheet, other_tree}
 use Rattle.monitor.specs.Standing.{level_rules, standing_of}
 use Rattle.monitor.specs.declared.state.State.{State}
-use Rattle.monitor.specs.declared.hand_in.Answer.{Answer}
+use Rattle.monitor.specs.declared.state.Reply.{Reply}
 use Rattle.printer.specs.Line.{header_line}
-use Rattle.printer.specs.Input.{most_tree, most_sheet}
 use Rattle.printer.specs.Text.{first_refusal, holding, lines_below, levels_text}
 use Rattle.printer.specs.Held.{ReadyAt}
 
@@ -59,7 +58,7 @@ module _ (state : State) (tree_bytes sheet_bytes : List ℕ) (n : ℕ) (found : 
         ∙ ap (λ (c : Counts). header_line c.number c.events n ++ lines) own.1
 
 -- What handing in an accepted file leaves, beside the rest of its store.
-record Taken (fault : FirstFault) (file : List ℕ) (after : State) (answer : Answer) (kept : List ℕ) : Type 0 where
+record Taken (fault : FirstFault) (file : List ℕ) (after : State) (answer : Reply (Unit {0})) (kept : List ℕ) : Type 0 where
   none : fault ≡ Ok tt
   state_is : answer.state ≡ after
   rest : List ℕ
@@ -67,7 +66,7 @@ record Taken (fault : FirstFault) (file : List ℕ) (after : State) (answer : An
 
 -- A file handed in to a store that takes it, by its own fault and the states before and after.
 module _ (fault : FirstFault) (file store : List ℕ) (before after : State) (room : length file ≤ length store)
-    (answer : Answer) (e : answer ≡ handed_answer fault file store before after) where
+    (answer : Reply (Unit {0})) (e : answer ≡ handed_answer fault file store before after) where
   -- 20 is not found
   fault_own : hand_in_fault fault file store ≡ fault
   fault_own = go fault
@@ -81,22 +80,22 @@ module _ (fault : FirstFault) (file store : List ℕ) (before after : State) (ro
   answer_is = e ∙ ap (λ (f : FirstFault). answer_by f before after) fault_own
 
   -- the verdict is the file's fault
-  verdict_is : answer.verdict ≡ fault
-  verdict_is = ap (λ (a : Answer). a.verdict) answer_is ∙ go fault
+  verdict_is : answer.outcome ≡ fault
+  verdict_is = ap (λ (a : Reply (Unit {0})). a.outcome) answer_is ∙ go fault
     where
-      go : (f : FirstFault) → (answer_by f before after).verdict ≡ f
+      go : (f : FirstFault) → (answer_by f before after).outcome ≡ f
       go (Err r) = refl
       go (Ok tt) = refl
 
   -- one of acceptance leaves the file
-  taken : (kept : List ℕ) → kept ≡ handed_store fault file store → answer.verdict ≡ Ok tt
+  taken : (kept : List ℕ) → kept ≡ handed_store fault file store → answer.outcome ≡ Ok tt
       → Taken fault file after answer kept
   unfolding handed_store
   taken kept k v =
       let none : fault ≡ Ok tt = sym verdict_is ∙ v in
       record {
         none = none;
-        state_is = ap (λ (a : Answer). a.state) (answer_is ∙ ap (λ (f : FirstFault). answer_by f before after) none);
+        state_is = ap (λ (a : Reply (Unit {0})). a.state) (answer_is ∙ ap (λ (f : FirstFault). answer_by f before after) none);
         rest = drop (length file) store;
         kept_is = k ∙ ap (λ (f : FirstFault). store_by f file store) (fault_own ∙ none);
       }
@@ -131,39 +130,40 @@ rules_front tree sheet tree_rest sheet_rest n =
     (front_held tree tree_rest ∙ sym (take-length tree)) (front_held sheet sheet_rest ∙ sym (take-length sheet))
 
 -- Handing in a tree, with a store that takes it and nothing held.
-module _ (tree sheet : List ℕ) (n : ℕ) (l : length tree ≤ most_tree) (with_tree : Answer)
-    (e : with_tree ≡ tree_answer nothing_held tree (replicate most_tree 0)) where
+module _ (tree sheet : List ℕ) (n tree_room : ℕ) (l : length tree ≤ tree_room) (with_tree : Reply (Unit {0}))
+    (e : with_tree ≡ tree_answer nothing_held tree (replicate tree_room 0)) where
   -- refused
-  pub tree_refused : (r : Refusal) → with_tree.verdict ≡ Err r → Err r ≡ first_refusal tree sheet n
+  pub tree_refused : (r : Refusal) → with_tree.outcome ≡ Err r → Err r ≡ first_refusal tree sheet n
   tree_refused r v =
-      let verdict = verdict_is (tree_fault tree) tree (replicate most_tree 0) nothing_held
+      let verdict = verdict_is (tree_fault tree) tree (replicate tree_room 0) nothing_held
       (holding_tree (length tree) nothing_held) (rw length-replicate l) with_tree e in
       ap (λ (f : FirstFault). first_of (f ∷ sheet_fault sheet ∷ level_rules (holding tree sheet) tree sheet n n))
       (sym v ∙ verdict)
 
   -- accepted, and then the sheet with a store that takes it
-  module _ (v : with_tree.verdict ≡ Ok tt) (tree_bytes : List ℕ)
-      (kept : tree_bytes ≡ tree_store tree (replicate most_tree 0)) (m : length sheet ≤ most_sheet) (with_both : Answer)
-      (f : with_both ≡ sheet_answer with_tree.state sheet (replicate most_sheet 0)) where
+  module _ (v : with_tree.outcome ≡ Ok tt) (tree_bytes : List ℕ)
+      (kept : tree_bytes ≡ tree_store tree (replicate tree_room 0)) (sheet_room : ℕ)
+      (m : length sheet ≤ sheet_room) (with_both : Reply (Unit {0}))
+      (f : with_both ≡ sheet_answer with_tree.state sheet (replicate sheet_room 0)) where
     tree_taken : Taken (tree_fault tree) tree (holding_tree (length tree) nothing_held) with_tree tree_bytes
     tree_taken =
-        taken (tree_fault tree) tree (replicate most_tree 0) nothing_held (holding_tree (length tree) nothing_held)
+        taken (tree_fault tree) tree (replicate tree_room 0) nothing_held (holding_tree (length tree) nothing_held)
         (rw length-replicate l) with_tree e tree_bytes kept v
 
     -- refused
-    pub sheet_refused : (r : Refusal) → with_both.verdict ≡ Err r → Err r ≡ first_refusal tree sheet n
+    pub sheet_refused : (r : Refusal) → with_both.outcome ≡ Err r → Err r ≡ first_refusal tree sheet n
     sheet_refused r w =
-        let verdict = verdict_is (sheet_fault sheet) sheet (replicate most_sheet 0) with_tree.state
+        let verdict = verdict_is (sheet_fault sheet) sheet (replicate sheet_room 0) with_tree.state
         (holding_sheet (length sheet) with_tree.state) (rw length-replicate m) with_both f in
         sym (ap₂ (λ (t s : FirstFault). first_of (t ∷ s ∷ level_rules (holding tree sheet) tree sheet n n))
         tree_taken.none (sym verdict ∙ w))
 
     -- accepted: both are held
-    module _ (w : with_both.verdict ≡ Ok tt) (sheet_bytes : List ℕ)
-        (stored : sheet_bytes ≡ sheet_store sheet (replicate most_sheet 0)) where
+    module _ (w : with_both.outcome ≡ Ok tt) (sheet_bytes : List ℕ)
+        (stored : sheet_bytes ≡ sheet_store sheet (replicate sheet_room 0)) where
       sheet_taken : Taken (sheet_fault sheet) sheet (holding_sheet (length sheet) with_tree.state) with_both sheet_bytes
       sheet_taken =
-          taken (sheet_fault sheet) sheet (replicate most_sheet 0) with_tree.state
+          taken (sheet_fault sheet) sheet (replicate sheet_room 0) with_tree.state
           (holding_sheet (length sheet) with_tree.state) (rw length-replicate m) with_both f sheet_bytes stored w
 
       -- the state holds them

@@ -5,6 +5,7 @@ use mathlib.Core.Path.{◌≡◌, sym, ap, ◌∙◌}
 use mathlib.Core.List.{List, ◌++◌, append_assoc, append-nil}
 use Rattle.theory.specs.Unit.{billion}
 use Rattle.tree_file.specs.Judged.{counts_of}
+use Rattle.opinion_sheet.specs.Cut.{IsLevel}
 use Rattle.monitor.specs.Standing.{held_tree}
 use Rattle.monitor.specs.Question.{report_of}
 use Rattle.monitor.specs.declared.state.State.{State}
@@ -14,11 +15,11 @@ use Rattle.printer.specs.Line.{level_line}
 use Rattle.printer.specs.Text.{lines_below}
 use Rattle.printer.specs.Held.{ReadyAt}
 
--- a ready pair has at most 1,000 levels
-pub levels_most : (state : State) (tree_store sheet_store : List ℕ) (n : ℕ)
-    → ReadyAt state tree_store sheet_store n → n ≤ 1000
-levels_most state tree_store sheet_store n ready =
-    (ready_pair state tree_store sheet_store n n (counts_of (held_tree state tree_store)) ready).pair.level.n_bounded
+-- a pair is ready at a level
+pub ready_level : (state : State) (tree_store sheet_store : List ℕ) (n : ℕ)
+    → ReadyAt state tree_store sheet_store n → IsLevel n n
+ready_level state tree_store sheet_store n ready =
+    (ready_pair state tree_store sheet_store n n (counts_of (held_tree state tree_store)) ready).pair.level
 
 module _ (tree sheet : List ℕ) (n k : ℕ) (report : Report) (r : report ≡ report_of billion tree sheet k n)
     (before after : List ℕ) (e : after ≡ before ++ level_line k report.ends) where

@@ -1,23 +1,21 @@
-// The text as far as it is put, and the fields that are put to it.
-ghost use Rattle.std.specs.Prelude.{◌≡◌, ◌≤◌, ◌∷◌, [], ◌++◌, length};
+// The text, and the parts that are put to it.
+ghost use Rattle.std.specs.Prelude.{◌≡◌, ◌+◌, ◌≤◌, ◌∷◌, [], ◌++◌, length};
 ghost use Rattle.printer.specs.Decimal.{decimal};
-ghost use Rattle.printer.specs.Line.{ended, end_fields, mark, parted};
+ghost use Rattle.printer.specs.Line.{ended, mark};
 ghost use Rattle.printer.specs.Text.{most_text};
 ghost use Rattle.printer.specs.Room.{Room};
 
 use crate::print::MOST_TEXT;
-use arrayvec::ArrayVec;
+use arrayvec::ArrayString;
 use itoa::Buffer;
 use rounding::end::End;
 use std::marker::Model;
 
-// The byte between two fields.
-pub const SPACE: u8 = b' ';
-
-// The text as far as it is put.
+// The text as far as it is put, part by part.
+// Tried with `writeln!`: no contract says that it succeeds where there is room, so its `unwrap` was not proved.
 #[derive(Drop)]
 pub struct Draft {
-    bytes: ArrayVec<u8, MOST_TEXT>,
+    text: ArrayString<MOST_TEXT>,
 }
 
 // Clauses see the bytes that are put.
@@ -26,14 +24,14 @@ impl Model for Draft {
 
     ghost Value = { List ℕ };
 
-    ghost view = { λ d. d.bytes.items };
+    ghost view = { λ d. d.text.bytes };
 }
 
 // The mark of an end.
-fn mark_of(exact: bool) -> u8
-    ensures { result ≡ mark exact }
+fn mark_of(exact: bool) -> &'static str
+    ensures { result.now ≡ mark exact ∷ [] }
 {
-    if exact { b'=' } else { b'~' }
+    if exact { "=" } else { "~" }
 }
 
 impl Draft {
@@ -42,7 +40,7 @@ impl Draft {
         ensures { result ≡ [] }
     {
         Draft {
-            bytes: ArrayVec::new(),
+            text: ArrayString::new(),
         }
     }
 
@@ -51,49 +49,42 @@ impl Draft {
         ensures value { result.now ≡ self.now }
         ensures bound { length self.now ≤ most_text }
     {
-        self.bytes.as_slice()
+        self.text.as_str().as_bytes()
     }
 
     // Takes back all that is put.
     pub fn clear(&mut self)
         ensures { self.new ≡ [] }
     {
-        self.bytes.clear();
+        self.text.clear();
     }
 
-    // Puts a word and the byte after it.
-    pub fn put_word(&mut self, word: &[u8], after: u8)
-        requires { Room (ended word.now after) self.old }
-        ensures { self.new ≡ self.old ++ ended word.now after }
+    // Puts a text.
+    pub fn put(&mut self, text: &str)
+        requires { Room text.now self.old }
+        ensures { self.new ≡ self.old ++ text.now }
     {
-        self.bytes.try_extend_from_slice(word).unwrap();
-        self.bytes.push(after);
+        self.text.push_str(text);
     }
 
-    // Puts a number and the byte after it.
+    // Puts a number in decimal.
     #[tactic(auto, using(crate::proofs::Digits::decimal_written))]
-    pub fn put_number(&mut self, number: usize, after: u8)
-        requires { Room (ended (decimal number) after) self.old }
-        ensures { self.new ≡ self.old ++ ended (decimal number) after }
+    pub fn put_number(&mut self, number: usize)
+        requires { Room (decimal number) self.old }
+        ensures { self.new ≡ self.old ++ decimal number }
     {
-        self.put_word(Buffer::new().format(number).as_bytes(), after);
+        self.put(Buffer::new().format(number));
     }
 
-    // Puts a word, a number and the byte after them.
-    pub fn put_labelled(&mut self, word: &[u8], number: usize, after: u8)
-        requires { Room (parted (word.now ∷ decimal number ∷ []) after) self.old }
-        ensures { self.new ≡ self.old ++ parted (word.now ∷ decimal number ∷ []) after }
+    // Puts the units of an end, which have at most 10 digits, and its mark.
+    #[tactic(auto, using(crate::proofs::Digits::lengths))]
+    pub fn put_end(&mut self, end: End)
+        requires { length self.old + 12 ≤ most_text }
+        ensures text { self.new ≡ self.old ++ (ended (decimal end.value) 32 ++ mark end.exact ∷ []) }
+        ensures upper_bound { length self.new ≤ length self.old + 12 }
     {
-        self.put_word(word, SPACE);
-        self.put_number(number, after);
-    }
-
-    // Puts the units of an end, its mark and the byte after them.
-    pub fn put_end(&mut self, end: End, after: u8)
-        requires { Room (parted (end_fields end) after) self.old }
-        ensures { self.new ≡ self.old ++ parted (end_fields end) after }
-    {
-        self.put_number(end.value as usize, SPACE);
-        self.put_word(&[mark_of(end.exact)], after);
+        self.put_number(end.value as usize);
+        self.put(" ");
+        self.put(mark_of(end.exact));
     }
 }

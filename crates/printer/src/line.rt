@@ -3,12 +3,9 @@ ghost use Rattle.std.specs.Prelude.{◌≡◌, ◌+◌, ◌≤◌, ◌++◌, len
 ghost use Rattle.printer.specs.Line.{header_line, input_line, level_line, most_header, most_line, refusal_line};
 ghost use Rattle.printer.specs.Text.{most_text};
 
-use crate::draft::{Draft, SPACE};
+use crate::draft::Draft;
 use refusals::refusal::Refusal;
 use rounding::end::Enclosure;
-
-// The byte after the last field of a line.
-const LINE_FEED: u8 = b'\n';
 
 #[tactic(auto, using(crate::proofs::Digits::lengths))]
 impl Draft {
@@ -17,7 +14,7 @@ impl Draft {
         ensures { self.new ≡ input_line }
     {
         self.clear();
-        self.put_word(b"input", LINE_FEED);
+        self.put("input\n");
     }
 
     // Makes the text the line of a refusal.
@@ -25,8 +22,11 @@ impl Draft {
         ensures { self.new ≡ refusal_line refusal }
     {
         self.clear();
-        self.put_labelled(b"refused", refusal.rule.number(), SPACE);
-        self.put_labelled(b"at", refusal.place, LINE_FEED);
+        self.put("refused ");
+        self.put_number(refusal.rule.number());
+        self.put(" at ");
+        self.put_number(refusal.place);
+        self.put("\n");
     }
 
     // Begins the text with the header: the tree number, E and n.
@@ -35,9 +35,13 @@ impl Draft {
         ensures upper_bound { length self.new ≤ most_header }
     {
         self.clear();
-        self.put_labelled(b"tree", number, SPACE);
-        self.put_labelled(b"events", events, SPACE);
-        self.put_labelled(b"levels", n as usize, LINE_FEED);
+        self.put("tree ");
+        self.put_number(number);
+        self.put(" events ");
+        self.put_number(events);
+        self.put(" levels ");
+        self.put_number(n as usize);
+        self.put("\n");
     }
 
     // Puts the line of level k.
@@ -46,8 +50,11 @@ impl Draft {
         ensures line { self.new ≡ self.old ++ level_line k ends }
         ensures upper_bound { length self.new ≤ length self.old + most_line }
     {
-        self.put_number(k as usize, SPACE);
-        self.put_end(ends.lower, SPACE);
-        self.put_end(ends.upper, LINE_FEED);
+        self.put_number(k as usize);
+        self.put(" ");
+        self.put_end(ends.lower);
+        self.put(" ");
+        self.put_end(ends.upper);
+        self.put("\n");
     }
 }

@@ -1,16 +1,14 @@
 // The whole printed text for an input.
-ghost use Rattle.std.specs.Prelude.{◌≡◌, ◌≤◌, length, OnOk};
-ghost use Rattle.printer.specs.Input.{most_tree, most_sheet};
+ghost use Rattle.std.specs.Prelude.{◌≡◌, ◌≤◌, OnOk};
 ghost use Rattle.printer.specs.Text.{first_refusal, levels_text, most_text, text_of, whole_text};
 ghost use Rattle.printer.specs.Printed.{answer_of, buffer_after, text_length};
 
 use crate::draft::Draft;
-use crate::input::{
-    FILES_PLACE, LEVELS_PLACE, MOST_SHEET, MOST_TREE, TREE_LENGTH_PLACE, is_framed,
-};
+use crate::input::{Files, files_of};
 use crate::levels::put_levels;
-use fields::fields::field16_at;
-use monitor::hand_in::{hand_in_sheet, hand_in_tree};
+use monitor::hand_in::hand_in;
+use monitor::held::{MOST_SHEET, MOST_TREE, Sheet, Tree};
+use monitor::lent::HeldPair;
 use monitor::state::State;
 use refusals::refusal::Refusal;
 
@@ -23,50 +21,51 @@ pub struct TooShort {
     pub length: usize,
 }
 
-// Hands in the tree, then the sheet, and puts their levels, or answers the first refusal.
-fn hand_in(tree: &[u8], sheet: &[u8], n: u32, draft: &mut Draft) -> Result<(), Refusal>
-    requires tree_len_bound { length tree.now ≤ most_tree }
-    requires sheet_len_bound { length sheet.now ≤ most_sheet }
-    ensures refusal { result ≡ first_refusal tree.now sheet.now n }
-    ensures text { OnOk result (draft.new ≡ levels_text tree.now sheet.now n) }
+// Hands in the tree, then the sheet, and puts their levels, or answers the first refusal. program_text's `Held::pair`
+// hands in both too: one for the two would bring stores into the monitor, which holds none.
+fn hand_in_both(files: Files, draft: &mut Draft) -> Result<(), Refusal>
+    ensures refusal { result ≡ first_refusal files.entry.tree.now files.entry.sheet.now files.entry.n }
+    ensures text { OnOk result
+        (draft.new ≡ levels_text files.entry.tree.now files.entry.sheet.now files.entry.n) }
 {
+    // Written out: tried with `State::default()`, with which this function was not proved.
     let nothing = State {
         tree_len: 0,
         sheet_len: 0,
     };
     let mut tree_store = [0u8; MOST_TREE];
-    let with_tree = hand_in_tree(nothing, tree, &mut tree_store);
-    with_tree.verdict?;
+    let with_tree = hand_in::<Tree>(nothing, files.tree, &mut tree_store);
+    with_tree.outcome?;
     let mut sheet_store = [0u8; MOST_SHEET];
-    let with_both = hand_in_sheet(with_tree.state, sheet, &mut sheet_store);
-    with_both.verdict?;
-    put_levels(with_both.state, &tree_store, &sheet_store, n, draft)
+    let with_both = hand_in::<Sheet>(with_tree.state, files.sheet, &mut sheet_store);
+    with_both.outcome?;
+    let held = HeldPair {
+        state: with_both.state,
+        tree_store: &tree_store,
+        sheet_store: &sheet_store,
+    };
+    put_levels(held, files.n, draft)
 }
 
 // Puts the text for two files: their levels, or the first refusal alone.
 #[tactic(auto, unfolding(crate::specs::Text::text_of))]
-fn put_files(tree: &[u8], sheet: &[u8], n: u32, draft: &mut Draft)
-    requires tree_len_bound { length tree.now ≤ most_tree }
-    requires sheet_len_bound { length sheet.now ≤ most_sheet }
-    ensures { draft.new ≡ text_of tree.now sheet.now n }
+fn put_files(files: Files, draft: &mut Draft)
+    ensures { draft.new ≡ text_of files.entry.tree.now files.entry.sheet.now files.entry.n }
 {
-    if let Err(refusal) = hand_in(tree, sheet, n, draft) {
+    if let Err(refusal) = hand_in_both(files, draft) {
         draft.put_refusal(refusal);
     }
 }
 
 // Puts the text for an input.
-#[tactic(auto, unfolding(crate::specs::Text::whole_text, crate::specs::Input::well_framed))]
+#[tactic(auto, unfolding(crate::specs::Text::whole_text))]
 fn put_text(input: &[u8], draft: &mut Draft)
     ensures { draft.new ≡ whole_text input.now }
 {
-    if !is_framed(input) {
-        return draft.put_input();
+    match files_of(input) {
+        Some(files) => put_files(files, draft),
+        None => draft.put_input(),
     }
-    let n = field16_at(input, LEVELS_PLACE);
-    let tree_len = field16_at(input, TREE_LENGTH_PLACE);
-    let end = FILES_PLACE + tree_len;
-    put_files(&input[FILES_PLACE..end], &input[end..], n as u32, draft);
 }
 
 // Prints the levels of an input into a lent buffer: the text's length. A buffer too short for it stays as it was.

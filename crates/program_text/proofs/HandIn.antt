@@ -10,8 +10,8 @@ use Rattle.monitor.specs.HandIn.{handed_answer, handed_store}
 use Rattle.monitor.specs.HandIn.{holding_tree, holding_sheet, tree_store, sheet_answer, sheet_store, nothing_held}
 use Rattle.monitor.specs.Standing.{held_tree, held_sheet}
 use Rattle.monitor.specs.declared.state.State.{State}
-use Rattle.monitor.specs.declared.hand_in.Answer.{Answer}
-use Rattle.program_text.specs.declared.held.TheConstants.{MOST_TREE, MOST_SHEET}
+use Rattle.monitor.specs.declared.state.Reply.{Reply}
+use Rattle.monitor.specs.declared.held.TheConstants.{MOST_TREE, MOST_SHEET}
 use Rattle.program_text.specs.Pair.{tree_answered, pair_fault}
 
 -- No held length is beyond its store.
@@ -20,7 +20,7 @@ Inside state = (state.tree_len ≤ MOST_TREE) × (state.sheet_len ≤ MOST_SHEET
 
 module _ (file store : List ℕ) (before after : State) where
   -- a file longer than its store is not taken in
-  pub inside_after : (fault : FirstFault) (answer : Answer) → answer ≡ handed_answer fault file store before after
+  pub inside_after : (fault : FirstFault) (answer : Reply (Unit {0})) → answer ≡ handed_answer fault file store before after
       → Inside before → (length file ≤ length store → Inside after) → Inside answer.state
   unfolding handed_answer
   inside_after (Err r) answer e kept fits = rw e kept
@@ -29,31 +29,31 @@ module _ (file store : List ℕ) (before after : State) where
 
   -- a file that is taken in is the one that its state and store hold
   pub taken_in : (fault : FirstFault) (state : State)
-      → record { state = state; verdict = Ok tt } ≡ handed_answer fault file store before after
+      → record { state = state; outcome = Ok tt } ≡ handed_answer fault file store before after
       → (state ≡ after) × (take (length file) (handed_store fault file store) ≡ file)
   unfolding handed_answer handed_store
-  taken_in (Err r) state e = let verdict : Ok tt ≡ Err r = ap (λ (a : Answer). a.verdict) e in cc
+  taken_in (Err r) state e = let verdict : Ok tt ≡ Err r = ap (λ (a : Reply (Unit {0})). a.outcome) e in cc
   taken_in (Ok tt) state e =
       elim (leb_tells (length file) (length store)) [
-        | inl l ↦ (ap (λ (a : Answer). a.state) (rw l.0 at e), rw l.0 (take_at file (drop (length file) store) (length file) refl))
-        | inr g ↦ let verdict = ap (λ (a : Answer). a.verdict) (rw g.0 at e) in cc
+        | inl l ↦ (ap (λ (a : Reply (Unit {0})). a.state) (rw l.0 at e), rw l.0 (take_at file (drop (length file) store) (length file) refl))
+        | inr g ↦ let outcome = ap (λ (a : Reply (Unit {0})). a.outcome) (rw g.0 at e) in cc
       ]
 
 module _ (tree sheet : List ℕ) (with_tree : State) where
   -- the tree is refused
-  pub tree_refused : (r : Refusal) → record { state = with_tree; verdict = Err r } ≡ tree_answered tree
+  pub tree_refused : (r : Refusal) → record { state = with_tree; outcome = Err r } ≡ tree_answered tree
       → pair_fault tree sheet ≡ Err r
   tree_refused r e = rw (← e) refl
 
-  module _ (t : record { state = with_tree; verdict = Ok tt } ≡ tree_answered tree) (with_both : State) where
+  module _ (t : record { state = with_tree; outcome = Ok tt } ≡ tree_answered tree) (with_both : State) where
     -- the sheet is refused
     pub sheet_refused : (r : Refusal)
-        → record { state = with_both; verdict = Err r } ≡ sheet_answer with_tree sheet (replicate MOST_SHEET 0)
+        → record { state = with_both; outcome = Err r } ≡ sheet_answer with_tree sheet (replicate MOST_SHEET 0)
         → pair_fault tree sheet ≡ Err r
     sheet_refused r e = rw (← t, ← e) refl
 
     -- both are taken in
-    pub both_held : record { state = with_both; verdict = Ok tt } ≡ sheet_answer with_tree sheet (replicate MOST_SHEET 0)
+    pub both_held : record { state = with_both; outcome = Ok tt } ≡ sheet_answer with_tree sheet (replicate MOST_SHEET 0)
         → (held_tree with_both (tree_store tree (replicate MOST_TREE 0)) ≡ tree)
         × (held_sheet with_both (sheet_store sheet (replicate MOST_SHEET 0)) ≡ sheet)
     both_held e =

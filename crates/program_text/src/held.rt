@@ -1,17 +1,20 @@
 // A held state with its two stores.
 ghost use Rattle.std.specs.Prelude.{◌≡◌, ◌≤◌, IfOk, IfErr, replicate};
-ghost use Rattle.program_text.specs.declared.held.TheConstants.{MOST_TREE, MOST_SHEET};
+ghost use Rattle.monitor.specs.declared.held.TheConstants.{MOST_TREE, MOST_SHEET};
 
-use monitor::hand_in::{hand_in_sheet, hand_in_tree};
+use monitor::hand_in::hand_in;
+use monitor::held::{MOST_SHEET, MOST_TREE, Sheet, Tree};
+use monitor::lent::{HeldPair, HeldTree};
 use monitor::state::State;
 use refusals::refusal::Refusal;
 
-// The most bytes of a tree file and of an opinion sheet that can be accepted.
-pub const MOST_TREE: usize = 7175;
+// The level printer's input: n and the lengths of the tree and of the sheet, each 16 bits wide, and then the files.
+pub const LEVELS_HEAD: usize = 6;
 
-pub const MOST_SHEET: usize = 17434;
+pub const MOST_LEVELS_INPUT: usize = LEVELS_HEAD + MOST_TREE + MOST_SHEET;
 
-// The state, and stores that no accepted file is too long for.
+// The state, and stores that no accepted file is too long for: fixed arrays, since the project has no heap. How much
+// of each is in use is in the state, as the monitor answers it.
 #[derive(Drop)]
 pub struct Held {
     pub state: State,
@@ -21,6 +24,7 @@ pub struct Held {
     ghost sheet_inside: { state.sheet_len ≤ MOST_SHEET },
 }
 
+// Two functions hand in, each to its own store: one for both would be told which, and be no shorter.
 impl Held {
     ghost use Rattle.monitor.specs.HandIn.{tree_answer, tree_store, sheet_answer, sheet_store, nothing_held};
     ghost use Rattle.program_text.specs.Pair.{HoldsPair, pair_fault};
@@ -32,10 +36,7 @@ impl Held {
         ensures sheet { result.sheet ≡ replicate MOST_SHEET 0 }
     {
         Held {
-            state: State {
-                tree_len: 0,
-                sheet_len: 0,
-            },
+            state: State::default(),
             tree: [0; MOST_TREE],
             sheet: [0; MOST_SHEET],
         }
@@ -43,24 +44,24 @@ impl Held {
 
     // Hands in a tree file.
     pub fn hand_in_tree(&mut self, file: &[u8]) -> Result<(), Refusal>
-        ensures answer { record { state = self.new.state; verdict = result } ≡ tree_answer self.old.state file.now self.old.tree }
+        ensures answer { record { state = self.new.state; outcome = result } ≡ tree_answer self.old.state file.now self.old.tree }
         ensures tree { self.new.tree ≡ tree_store file.now self.old.tree }
         ensures sheet { self.new.sheet ≡ self.old.sheet }
     {
-        let answer = hand_in_tree(self.state, file, &mut self.tree);
+        let answer = hand_in::<Tree>(self.state, file, &mut self.tree);
         self.state = answer.state;
-        answer.verdict
+        answer.outcome
     }
 
     // Hands in an opinion sheet.
     pub fn hand_in_sheet(&mut self, file: &[u8]) -> Result<(), Refusal>
-        ensures answer { record { state = self.new.state; verdict = result } ≡ sheet_answer self.old.state file.now self.old.sheet }
+        ensures answer { record { state = self.new.state; outcome = result } ≡ sheet_answer self.old.state file.now self.old.sheet }
         ensures sheet { self.new.sheet ≡ sheet_store file.now self.old.sheet }
         ensures tree { self.new.tree ≡ self.old.tree }
     {
-        let answer = hand_in_sheet(self.state, file, &mut self.sheet);
+        let answer = hand_in::<Sheet>(self.state, file, &mut self.sheet);
         self.state = answer.state;
-        answer.verdict
+        answer.outcome
     }
 
     // Hands in a tree file, and then an opinion sheet.
@@ -72,5 +73,31 @@ impl Held {
         held.hand_in_tree(tree)?;
         held.hand_in_sheet(sheet)?;
         Ok(held)
+    }
+
+    // What a call on the tree is lent.
+    pub fn lent_tree(&self) -> HeldTree<'_>
+        ensures state { result.state ≡ self.now.state }
+        ensures tree { result.tree_store.now ≡ self.now.tree }
+    {
+        let HeldPair {
+            state,
+            tree_store,
+            ..
+        } = self.lent_pair();
+        HeldTree { state, tree_store }
+    }
+
+    // What a call on the pair is lent.
+    pub fn lent_pair(&self) -> HeldPair<'_>
+        ensures state { result.state ≡ self.now.state }
+        ensures tree { result.tree_store.now ≡ self.now.tree }
+        ensures sheet { result.sheet_store.now ≡ self.now.sheet }
+    {
+        HeldPair {
+            state: self.state,
+            tree_store: &self.tree,
+            sheet_store: &self.sheet,
+        }
     }
 }

@@ -56,11 +56,14 @@ impl fmt::Display for NoAnswer {
     }
 }
 
+// Who prints an answer or this matches for himself: each answer is another text, which one function for all would
+// take as a closure.
 pub fn print_refusal(rt: &impl Print, refusal: Refusal) -> io::Result<()> {
     println!(rt; "{}", NoAnswer::Refused(refusal))
 }
 
-// Says why there is no answer: on standard error that a write failed, and else on standard output.
+// Says why there is no answer: on standard error that a write failed, and else on standard output. No clause: none can
+// speak of what is printed.
 pub fn tell(rt: &(impl Print + Eprint), no_answer: NoAnswer, unwritten: &str) {
     let told = match no_answer {
         NoAnswer::Unwritten(error) => Err(error),

@@ -1,8 +1,9 @@
 // Reading standard input part by part.
-ghost use Rattle.std.specs.Prelude.{◌≡◌, IfOk, length};
-ghost use Rattle.program_text.specs.Front.{IsPrefixLen};
+ghost use Rattle.std.specs.Prelude.{◌≡◌, ◌≤◌, IfErr, IfOk, length};
+ghost use Rattle.program_text.specs.Pair.{HoldsLengths, RefusesLengths};
 
-use crate::held::{Held, MOST_SHEET, MOST_TREE};
+use crate::held::Held;
+use monitor::held::{MOST_SHEET, MOST_TREE};
 use refusals::refusal::Refusal;
 use std::io::Read;
 
@@ -10,28 +11,28 @@ use std::io::Read;
 #[derive(Clone, Copy)]
 pub struct WrongInput;
 
-// Reads until `part` is full, the input ends or a read fails; how many bytes it put at the front of `part`.
-pub fn read_full(rt: &impl Input, part: &mut [u8]) -> usize
-    ensures { IsPrefixLen result part.new }
+// Reads until `part` is full, the input ends or a read fails; the front of `part` that it read. It counts by hand,
+// since `read_exact` does not say how far it came.
+pub fn read_full<'a>(rt: &impl Input, part: &'a mut [u8]) -> &'a [u8]
+    ensures { length result.now ≤ length part.old }
 {
     let mut reader = rt.reader();
     let mut done = 0;
     while done < part.len() {
         match reader.read(&mut part[done..]) {
-            Ok(0) => return done,
+            Ok(0) | Err(_) => break,
             Ok(count) => done += count,
-            Err(_) => return done,
         }
     }
-    done
+    &part[..done]
 }
 
 // Reads a part to its end.
-fn read_part(rt: &impl Input, part: &mut [u8]) -> Result<(), WrongInput> {
+pub fn read_part(rt: &impl Input, part: &mut [u8]) -> Result<(), WrongInput> {
     rt.reader().read_exact(part).map_err(|_| WrongInput)
 }
 
-// Reads a head of N bytes.
+// Reads a head of N bytes. No clause: none can speak of what comes.
 pub fn read_head<const N: usize>(rt: &impl Input) -> Result<[u8; N], WrongInput> {
     let mut head = [0; N];
     read_part(rt, &mut head)?;
@@ -51,20 +52,24 @@ pub fn read_file<'a>(
     Ok(file)
 }
 
-// Finds the input at its end.
+// Finds the input at its end. No clause either.
 pub fn read_end(rt: &impl Input) -> Result<(), WrongInput> {
-    if read_full(rt, &mut [0]) > 0 {
+    if !read_full(rt, &mut [0]).is_empty() {
         return Err(WrongInput);
     }
     Ok(())
 }
 
-// Reads a tree file and an opinion sheet, and hands both in. A refusal stands apart, since what follows may be wrong too.
+// Reads a tree file and an opinion sheet, and hands both in. A refusal stands apart, since what follows may be wrong
+// too.
 pub fn read_pair(
     rt: &impl Input,
     tree_len: usize,
     sheet_len: usize,
-) -> Result<Result<Held, Refusal>, WrongInput> {
+) -> Result<Result<Held, Refusal>, WrongInput>
+    ensures held { IfOk result (λ pair. IfOk pair (λ held. HoldsLengths held tree_len sheet_len)) }
+    ensures refused { IfOk result (λ pair. IfErr pair (λ refusal. RefusesLengths refusal tree_len sheet_len)) }
+{
     let mut tree = [0; MOST_TREE];
     let mut sheet = [0; MOST_SHEET];
     let tree = read_file(rt, tree_len, &mut tree)?;

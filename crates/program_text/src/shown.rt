@@ -4,14 +4,16 @@ ghost use Rattle.std.specs.Fmt.{decimal};
 ghost use Rattle.program_text.specs.Shown.{mark};
 
 use crate::checksum::checksum;
-use monitor::state::State;
+use monitor::lent::HeldPair;
 use rounding::end::End;
 use std::{fmt, io};
 
 // A store or slice of more places than this is printed by its first and last place and its checksum.
 pub const WHOLE: usize = 8;
 
-// A store in hex: its bytes where they are few, else their number, the first and the last, and their checksum.
+// A store in hex: its bytes where they are few, else their number, the first and the last, and their checksum. A slice
+// in decimal, which vectors prints, has the same shape: one for both would be told the base, the width, what parts them
+// and the word for none.
 #[derive(Drop)]
 struct Store<'a>(&'a [u8]);
 
@@ -35,14 +37,20 @@ impl fmt::Display for Store<'_> {
     }
 }
 
-// The state and both stores.
-pub fn print_after(rt: &impl Print, state: State, tree: &[u8], sheet: &[u8]) -> io::Result<()> {
-    println!(rt; "state {} {}", state.tree_len, state.sheet_len)?;
-    println!(rt; "tree {}", Store(tree))?;
-    println!(rt; "sheet {}", Store(sheet))
+// The state and both stores, as far as they can be written.
+pub fn print_after(rt: &impl Print, held: HeldPair) {
+    let _ = write_after(rt, held);
 }
 
-// An end as it is printed: its units, and = where it is exact.
+// The state and both stores.
+pub fn write_after(rt: &impl Print, held: HeldPair) -> io::Result<()> {
+    println!(rt; "state {} {}", held.state.tree_len, held.state.sheet_len)?;
+    println!(rt; "tree {}", Store(held.tree_store))?;
+    println!(rt; "sheet {}", Store(held.sheet_store))
+}
+
+// An end as it is printed: its units, and = where it is exact. Printer's `Draft` puts the same sign, and the same
+// line of a refusal, part by part: its text is proved, and `writeln!` was not.
 #[derive(Drop)]
 pub struct Shown(pub End);
 

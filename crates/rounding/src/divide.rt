@@ -19,7 +19,8 @@ fn rounded(direction: Direction, num: u64, den: u64) -> u64
     }
 }
 
-// The quotient rounded, exact where nothing was dropped.
+// The quotient rounded, exact where nothing was dropped. At most U, it is narrowed by `as`: `try_from` would bring a
+// branch that is never taken.
 #[tactic(auto, using(theory::proofs::RoundingMeaning::no_remainder, theory::proofs::RoundingMeaning::rounded_at_most))]
 pub fn divided(direction: Direction, num: u64, den: u64) -> End
     requires { (0 < den) × (num ≤ billion * den) }

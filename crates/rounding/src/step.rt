@@ -8,7 +8,8 @@ use crate::direction::Direction;
 use crate::end::End;
 use crate::unit::UNIT;
 
-// A product of two ends over U, rounded: up as document 02 has it, where `div_ceil` would test for a remainder.
+// A product of two ends over U, rounded: up as document 02 has it, where `div_ceil` would test for a remainder. At most
+// U, it is narrowed by `as`, and so is U below: `try_from` would bring a branch that is never taken.
 #[tactic(auto, unfolding(theory::specs::Rounding::rescaled))]
 fn rescaled(direction: Direction, product: u64) -> u32
     requires { product ≤ billion * billion }

@@ -5,7 +5,7 @@ use mathlib.Core.List.{List}
 use native.Mathlib.Nat.{le_antisymm, le_of_eq, le_refl}
 use native.Mathlib.Omega.{arith}
 use borrow.Author.Tests.{le-leb, leb-true}
-use Rattle.std.specs.Prelude.{Ok, Err}
+use Rattle.std.specs.Prelude.{Ok}
 use Rattle.refusals.proofs.FirstFault.{AllAbsent, absent_first_of, among_absent, among_each, first_of_absent}
 use Rattle.refusals.proofs.FirstFault.{unless_holds}
 use Rattle.tree_file.specs.Format.{field_a, field_b, kind, link, link_count, node_count}

@@ -14,7 +14,7 @@ use Rattle.refusals.specs.FirstFault.{unless, ◌or_else◌}
 use Rattle.refusals.specs.Order.{refusal, stage, order_place, by_place, by_number}
 use Rattle.refusals.specs.declared.refusal.Refusal.{Refusal}
 use Rattle.refusals.specs.FirstFault.{FirstFault}
-use Rattle.std.specs.Prelude.{Ok, Err}
+use Rattle.std.specs.Prelude.{Ok}
 use Rattle.refusals.specs.declared.rule.Rule.TheVariants.{TooShort, WrongLetters, WrongVersion, WrongCount}
 use Rattle.refusals.specs.declared.rule.Rule.TheVariants.{WrongLength, UnknownKind, WrongField, NotBelow, LinkedBefore}
 use Rattle.refusals.proofs.FirstFault.{among_each, unless_holds}

@@ -2,8 +2,9 @@
 -- what the nodes are (Nodes, NodeTable), and that the tree opens node by node and the root has every basic event
 -- (Root). Cases are computed by the prover.
 pub mod Tallies
+pub mod HeaderTests
 pub mod HeaderLaws
-pub mod KindByte
+pub mod RecordTests
 pub mod RecordLaws
 pub mod RecordsTurn
 pub mod LinkLaws

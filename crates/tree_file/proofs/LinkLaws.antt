@@ -8,7 +8,7 @@ use native.Mathlib.Decide.{dec_lt, ℕ_discrete}
 use native.Mathlib.Omega.{arith}
 use lib.Dec.{eqb}
 use borrow.Author.Tests.{lt-ltb, ltb-true, eqb-false, ne_eqb, not-true}
-use Rattle.std.specs.Prelude.{Ok, Err}
+use Rattle.std.specs.Prelude.{Ok}
 use Rattle.refusals.proofs.FirstFault.{first_of_absent, unless_holds}
 use Rattle.tree_file.specs.Format.{field_a, link}
 use Rattle.tree_file.specs.Tallies.{input_count, inputs_before}

@@ -1,13 +1,13 @@
 -- The nodes of a well-formed file as they are read, and the links of its gates.
 use Prim.Native.Nat.{ℕ, ◌+◌, ◌-◌, ◌*◌, ◌≤◌, ◌<◌}
-use mathlib.Core.Path.{◌≡◌, sym, ◌∙◌, ap}
+use mathlib.Core.Path.{◌≡◌, ◌∙◌, ap}
 use mathlib.Core.Logic.{⊎_elim}
 use mathlib.Core.List.{List}
 use native.Mathlib.Nat.{eq-zero-or-pos}
 use native.Mathlib.Omega.{arith}
 use lib.ListN.{length, take, drop, length-drop}
 use borrow.Author.Tests.{eq-eqb, ne_eqb}
-use Rattle.fields.specs.Fields.{field16, Is16}
+use Rattle.fields.specs.Fields.{field16}
 use Rattle.fields.proofs.Parts.{field16_drop, part_from}
 use Rattle.tree_file.specs.Format.{field_a, field_b, kind, link, link_at, link_count, linked, links_from}
 use Rattle.tree_file.specs.Format.{max_inputs, node_count}
@@ -16,7 +16,6 @@ use Rattle.tree_file.specs.NodeTable.{gate_kind, read_node}
 use Rattle.tree_file.specs.WellFormed.{WellFormed}
 use Rattle.tree_file.specs.Requirements.{HasLink}
 use Rattle.tree_file.specs.declared.node.Gate.{Gate as GateNode}
-use Rattle.tree_file.specs.declared.node.GateKind.TheVariants.{All, Any}
 use Rattle.tree_file.specs.declared.node.Node.TheVariants.{Event, Gate}
 use Rattle.tree_file.proofs.Tallies.{event_below, gate_inputs}
 use Rattle.tree_file.proofs.Accepted.{gate_links_end}
@@ -35,23 +34,6 @@ unfolding read_node
 node_case file i =
     ⊎_elim (λ z. is_event z (rw (eq-eqb (kind file i) 0 z)))
     (λ g. is_gate g (rw (ne_eqb (kind file i) 0 (λ z. omega arith)))) (eq-zero-or-pos (kind file i))
-
--- A node by its fields as they were read.
-module _ (file : List ℕ) (i k a : ℕ) (ke : k ≡ kind file i) (ae : Is16 a (field_a file i)) where
-  pub event_read : k ≡ 0 → Event a ≡ read_node file i
-  unfolding read_node
-  event_read z = rw (ae.value, eq-eqb (kind file i) 0 (sym ke ∙ z))
-
-  module _ (b : ℕ) (be : Is16 b (field_b file i)) (nz : k ≡ 0 → ⊥) where
-    gate_read : Gate (record { kind = gate_kind k; first = a; inputs = b }) ≡ read_node file i
-    unfolding read_node
-    gate_read = rw (← ke, ne_eqb k 0 nz, ae.value, be.value)
-
-    pub and_read : k ≡ 1 → Gate (record { kind = All; first = a; inputs = b }) ≡ read_node file i
-    and_read e = rw (← gate_read, eq-eqb k 1 e)
-
-    pub or_read : (k ≡ 1 → ⊥) → Gate (record { kind = Any; first = a; inputs = b }) ≡ read_node file i
-    or_read ne = rw (← gate_read, ne_eqb k 1 ne)
 
 -- The part of a file from an offset on, as code lends it.
 pub part_read : (file : List ℕ) (first at : ℕ) → at ≡ link_at file first

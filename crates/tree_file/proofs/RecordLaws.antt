@@ -1,68 +1,21 @@
--- A record's first fault by the tests that lead to it, and what a record without a fault is. `k`, `a` and `b` are the
--- record's fields as they were read.
-use Prim.Native.Nat.{ℕ, zero, suc, ◌+◌, ◌-◌, ◌≤◌, ◌<◌, zero-le}
+-- What a record without a fault is.
+use Prim.Native.Nat.{ℕ, zero, suc, ◌+◌, ◌≤◌, ◌<◌, zero-le}
 use mathlib.Core.Path.{◌≡◌}
 use mathlib.Core.Logic.{⊎_elim}
-use mathlib.Core.Bool.{Bool, true, false, not, ◌&&◌, and-eq-true_iff}
-use mathlib.Core.List.{List, [], ◌∷◌}
+use mathlib.Core.Bool.{true, ◌&&◌, and-eq-true_iff}
+use mathlib.Core.List.{List}
 use native.Mathlib.Nat.{add-zero, eq-zero-or-pos}
 use native.Mathlib.Omega.{arith}
 use lib.Dec.{leb, eqb}
-use borrow.Author.Tests.{le-leb, lt-leb, leb-true, eq-eqb, ne_eqb, eqb-true, not-true, not-false}
-use Rattle.fields.specs.Fields.{Is16}
-use Rattle.refusals.specs.FirstFault.{first_of, unless}
-use Rattle.refusals.specs.Order.{refusal}
-use Rattle.refusals.specs.declared.refusal.Refusal.{Refusal}
-use Rattle.std.specs.Prelude.{Ok, Err}
-use Rattle.refusals.specs.declared.rule.Rule.TheVariants.{UnknownKind, WrongField}
+use borrow.Author.Tests.{le-leb, leb-true, eq-eqb, ne_eqb, eqb-true}
+use Rattle.std.specs.Prelude.{Ok}
 use Rattle.refusals.proofs.FirstFault.{AllAbsent, among_each, first_of_absent, unless_holds}
 use Rattle.tree_file.specs.Format.{field_a, field_b, kind, link_count, max_inputs, node_count, or_kind}
-use Rattle.tree_file.specs.Format.{record_at}
 use Rattle.tree_file.specs.Tallies.{events_before, inputs_before}
-use Rattle.tree_file.specs.RecordRules.{has_fields, is_event, is_gate, record_fault, record_rules}
+use Rattle.tree_file.specs.RecordRules.{has_fields, record_fault, record_rules}
 use Rattle.tree_file.specs.RecordRules.{records_fault}
 use Rattle.tree_file.specs.WellFormed.{WellFormedRecord}
-use Rattle.tree_file.specs.Requirements.{Sized, Tallied}
 use Rattle.tree_file.proofs.Tallies.{basic_inputs, gate_inputs}
-
-pub unknown_kind : (file : List ℕ) (i k place : ℕ) (r : Refusal) → k ≡ kind file i → place ≡ record_at file i
-    → r ≡ refusal UnknownKind place → 2 < k → Err r ≡ record_fault file i
-unfolding record_fault
-unknown_kind file i k place r e p re h = rw (re, p, lt-leb (kind file i) 2 (rw e at h))
-
-pub event_test : (k a b events inputs links : ℕ) (r : Bool) → k ≡ 0 → r ≡ is_event a b events
-    → r ≡ has_fields k a b events inputs links
-unfolding has_fields
-event_test k a b events inputs links r z e = rw (eq-eqb k 0 z, e)
-
-pub gate_test : (k a b events inputs links : ℕ) (r : Bool) → (k ≡ 0 → ⊥) → r ≡ is_gate a b inputs links
-    → r ≡ has_fields k a b events inputs links
-unfolding has_fields
-gate_test k a b events inputs links r nz e = rw (ne_eqb k 0 nz, e)
-
-module _ (file : List ℕ) (nodes i k a b events inputs : ℕ) (s : Sized file nodes) (t : Tallied file i events inputs)
-    (ke : k ≡ kind file i) (ae : Is16 a (field_a file i)) (be : Is16 b (field_b file i)) (known : k ≤ 2)
-    (r : Bool) (found : r ≡ has_fields k a b events inputs (nodes - 1)) where
-  last_rule : record_fault file i ≡ first_of (unless r WrongField (record_at file i) ∷ [])
-  unfolding record_fault
-  last_rule =
-      rw (
-        found,
-        s.nodes_value,
-        t.events_value,
-        t.inputs_value,
-        ke,
-        ae.value,
-        be.value,
-        le-leb (kind file i) 2 (rw ke at known),
-      )
-
-  pub wrong_fields : (place : ℕ) (q : Refusal) → place ≡ record_at file i → q ≡ refusal WrongField place
-      → not r ≡ true → Err q ≡ record_fault file i
-  wrong_fields place q p qe h = rw (qe, p, last_rule, not-true r h)
-
-  pub record_passed : not r ≡ false → Ok tt ≡ record_fault file i
-  record_passed h = rw (last_rule, not-false r h)
 
 -- What the tests of the fields say.
 pub event_facts : (k a b events inputs links : ℕ) → k ≡ 0 → has_fields k a b events inputs links ≡ true

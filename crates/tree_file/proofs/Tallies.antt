@@ -1,14 +1,12 @@
 -- The counts over the first records: a node's inputs by its kind, and that the counts never fall.
 use Prim.Native.Nat.{ℕ, zero, suc, ◌+◌, ◌-◌, ◌≤◌, ◌<◌}
-use mathlib.Core.Path.{◌≡◌, refl, sym, ◌∙◌, ap, subst}
+use mathlib.Core.Path.{◌≡◌, refl, sym, ap, subst}
 use mathlib.Core.Logic.{⊎_elim}
 use mathlib.Core.Bool.{cond}
 use mathlib.Core.List.{List}
 use native.Mathlib.Nat.{add-zero, add-suc, eq-zero-or-pos, le_of_eq, not-suc-le-zero}
 use native.Mathlib.Omega.{arith}
-use lib.Dec.{lit<}
 use borrow.Author.Tests.{eq-eqb, ne_eqb}
-use Rattle.fields.specs.Fields.{Is16}
 use Rattle.tree_file.specs.Format.{field_b, kind}
 use Rattle.tree_file.specs.Tallies.{events_before, input_count, inputs_before, is_basic}
 
@@ -20,14 +18,6 @@ basic_inputs file i z = rw (eq-eqb (kind file i) 0 z)
 pub gate_inputs : (file : List ℕ) (i : ℕ) → 0 < kind file i → input_count file i ≡ field_b file i
 unfolding input_count
 gate_inputs file i gate = rw (ne_eqb (kind file i) 0 (λ z. omega arith))
-
--- The number of inputs as it is read: by the kind k, and b where there are inputs.
-pub read_none : (file : List ℕ) (i k : ℕ) → k ≡ kind file i → k ≡ 0 → Is16 0 (input_count file i)
-read_none file i k e z = record { value = sym (basic_inputs file i (sym e ∙ z)); small = lit< tt }
-
-pub read_inputs : (file : List ℕ) (i k b : ℕ) → k ≡ kind file i → (k ≡ 0 → ⊥) → Is16 b (field_b file i)
-    → Is16 b (input_count file i)
-read_inputs file i k b e nz r = record { value = r.value ∙ sym (gate_inputs file i (omega arith)); small = r.small }
 
 -- A node with an input is a gate.
 pub with_input : (file : List ℕ) (i k : ℕ) → k < input_count file i → 0 < kind file i

@@ -39,13 +39,12 @@ pub const MAX_INPUTS: usize = 16;
 
 // Whether the file begins with FTF.
 pub fn has_letters(file: &[u8]) -> bool
-    requires { header_length ≤ length file.now }
     ensures { result ≡ has_letters file.now }
 {
-    (file[0] == b'F') & (file[1] == b'T') & (file[2] == b'F')
+    file.starts_with(b"FTF")
 }
 
-// N, the number of nodes.
+// N, the number of nodes: no `u16`, as fields reads it, since it is a count where it is used, as the other fields are.
 pub fn node_count(file: &[u8]) -> usize
     requires { header_length ≤ length file.now }
     ensures { Is16 result (node_count file.now) }
@@ -70,29 +69,40 @@ pub fn link_at(file: &[u8], j: usize) -> usize
     record_at(nodes) + LINK_LENGTH * j
 }
 
-// The kind of node i.
-pub fn kind_at(file: &[u8], i: usize) -> usize
-    requires { HasRecord file.now i × (i < 65536) }
-    ensures { result ≡ kind file.now i }
-{
-    byte_at(file, record_at(i))
+// The record of a node, within its file.
+#[derive(Clone, Copy)]
+pub struct Record<'a> {
+    pub file: &'a [u8],
+    pub node: usize,
+    pub ghost inside: { HasRecord file.now node },
+    pub ghost node_small: { node < 65536 },
 }
 
-// The field of node i at an offset in its record.
-pub fn field_at(file: &[u8], i: usize, offset: usize) -> usize
-    requires { HasRecord file.now i × (i < 65536) × (offset + 1 < record_length) }
-    ensures { Is16 result (field16 file.now (record_at file.now i + offset)) }
-{
-    field16_at(file, record_at(i) + offset)
-}
-
-// The number of inputs of node i: 0 of a basic event.
-pub fn input_count_at(file: &[u8], i: usize) -> usize
-    requires { HasRecord file.now i × (i < 65536) }
-    ensures { Is16 result (input_count file.now i) }
-{
-    if kind_at(file, i) == RecordKind::Event as usize {
-        return 0;
+impl Record<'_> {
+    // Its first byte, the kind of the node: a number and no `RecordKind`, since in a file any byte may stand there,
+    // and a reader of an accepted file would match an error that can't be.
+    pub fn kind(self) -> usize
+        ensures { result ≡ kind self.entry.file.now self.entry.node }
+    {
+        byte_at(self.file, record_at(self.node))
     }
-    field_at(file, i, B_OFFSET)
+
+    // Its field at an offset.
+    pub fn field(self, offset: usize) -> usize
+        requires { offset + 1 < record_length }
+        ensures { Is16 result (field16 self.entry.file.now (record_at self.entry.file.now self.entry.node + offset)) }
+    {
+        field16_at(self.file, record_at(self.node) + offset)
+    }
+
+    // The number of the node's inputs: 0 of a basic event.
+    #[tactic(auto, unfolding(crate::specs::Tallies::input_count))]
+    pub fn input_count(self) -> usize
+        ensures { Is16 result (input_count self.entry.file.now self.entry.node) }
+    {
+        if self.kind() == RecordKind::Event as usize {
+            return 0;
+        }
+        self.field(B_OFFSET)
+    }
 }

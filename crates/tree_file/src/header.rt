@@ -11,6 +11,7 @@ use refusals::refusal::Refusal;
 use refusals::rule::Rule;
 
 // The first fault of the header.
+#[tactic(auto, unfolding(crate::specs::HeaderRules::header_fault))]
 pub fn judge_header(file: &[u8]) -> Result<(), Refusal>
     ensures { result ≡ header_fault file.now }
 {
@@ -26,8 +27,7 @@ pub fn judge_header(file: &[u8]) -> Result<(), Refusal>
         return Err(Rule::WrongVersion.at(VERSION_PLACE));
     }
     let nodes = node_count(file);
-    let in_range = (1 <= nodes) & (nodes <= MAX_NODES);
-    if !in_range {
+    if !(1..=MAX_NODES).contains(&nodes) {
         return Err(Rule::WrongCount.at(NODES_PLACE));
     }
     if length != link_at(file, nodes - 1) {

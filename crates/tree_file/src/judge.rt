@@ -5,8 +5,7 @@ ghost use Rattle.tree_file.specs.Judged.{judged};
 use crate::format::node_count;
 use crate::header::judge_header;
 use crate::judgement::Counts;
-use crate::links::judge_links;
-use crate::records::judge_records;
+use crate::sized::SizedFile;
 use refusals::refusal::Refusal;
 
 // The first fault of a file in document 01's order, or its counts.
@@ -14,8 +13,11 @@ pub fn judge(file: &[u8]) -> Result<Counts, Refusal>
     ensures { result ≡ judged file.now }
 {
     judge_header(file)?;
-    let nodes = node_count(file);
-    let counts = judge_records(file, nodes)?;
-    judge_links(file, nodes)?;
+    let sized = SizedFile {
+        file,
+        nodes: node_count(file),
+    };
+    let counts = sized.judge_records()?;
+    sized.judge_links()?;
     Ok(counts)
 }

@@ -9,3 +9,4 @@ pub mod kind;
 mod links;
 pub mod node;
 mod records;
+mod sized;

@@ -2,40 +2,47 @@
 ghost use Rattle.std.specs.Prelude.{◌≡◌, Ok};
 ghost use Rattle.tree_file.specs.RecordRules.{records_fault};
 ghost use Rattle.tree_file.specs.LinkRules.{links_fault};
-ghost use Rattle.tree_file.specs.Requirements.{Sized};
 
-use crate::format::{MAX_NODES, input_count_at, link_at};
+use crate::format::{MAX_NODES, Record, link_at};
+use crate::sized::SizedFile;
 use fields::fields::field16_at;
 use refusals::refusal::Refusal;
 use refusals::rule::Rule;
 
-// The first fault of the links, in a file whose records have none.
-pub fn judge_links(file: &[u8], nodes: usize) -> Result<(), Refusal>
-    requires { Sized file.now nodes × (records_fault file.now ≡ Ok tt) }
-    ensures { result ≡ links_fault file.now }
-{
-    // The nodes that a link has named.
-    let mut named = [false; MAX_NODES];
-    // The first link of the gate.
-    let mut first = 0;
-    let mut gate = 0;
-    'gates: loop {
-        if nodes <= gate {
-            break 'gates Ok(());
-        }
-        let inputs = input_count_at(file, gate);
-        'links: for k in 0..inputs {
-            let place = link_at(file, first + k);
-            let node = field16_at(file, place);
-            if gate <= node {
-                break 'gates Err(Rule::NotBelow.at(place));
+impl SizedFile<'_> {
+    // The first fault of the links, in a file whose records have none.
+    pub fn judge_links(self) -> Result<(), Refusal>
+        requires { records_fault self.file.now ≡ Ok tt }
+        ensures { result ≡ links_fault self.entry.file.now }
+    {
+        // The nodes that a link has named.
+        let mut named = [false; MAX_NODES];
+        // The first link of the gate.
+        let mut first = 0;
+        let mut gate = 0;
+        // Document 01 asks for labelled loops that yield the first refusal by `break`: a `for` yields no value.
+        'gates: loop {
+            if self.nodes <= gate {
+                break 'gates Ok(());
             }
-            if named[node] {
-                break 'gates Err(Rule::LinkedBefore.at(place));
+            let record = Record {
+                file: self.file,
+                node: gate,
+            };
+            let inputs = record.input_count();
+            'links: for k in 0..inputs {
+                let place = link_at(self.file, first + k);
+                let node = field16_at(self.file, place);
+                if gate <= node {
+                    break 'gates Err(Rule::NotBelow.at(place));
+                }
+                if named[node] {
+                    break 'gates Err(Rule::LinkedBefore.at(place));
+                }
+                named[node] = true;
             }
-            named[node] = true;
+            first += inputs;
+            gate += 1;
         }
-        first += inputs;
-        gate += 1;
     }
 }

@@ -4,13 +4,13 @@ use crate::desk::Desk;
 use crate::lent::{Work, filled};
 use crate::slice::Slice;
 use arrayvec::ArrayVec;
-use monitor::judge::judge;
-use monitor::question::{Report, question};
+use monitor::question::Report;
 use program_text::checksum::checksum;
 use program_text::no_answer::print_refusal;
 use program_text::shown::Shown;
 use refusals::refusal::Refusal;
 use std::io;
+use work_windows::hour::BookAtHour;
 use work_windows::question::question_at_hour;
 
 fn print_outcome(rt: &impl Print, outcome: Result<Report, Refusal>) -> io::Result<()> {
@@ -25,9 +25,9 @@ fn print_outcome(rt: &impl Print, outcome: Result<Report, Refusal>) -> io::Resul
 }
 
 impl Desk {
-    // Judges level k of n.
+    // Judges level k of n. They stand apart, since the list has calls whose k and n are no `Level`.
     pub fn judge(&self, rt: &impl Print, k: u32, n: u32) -> io::Result<()> {
-        match judge(self.state, &self.tree, &self.sheet, k, n) {
+        match self.lent_pair().judge_level(k, n) {
             Ok(counts) => println!(rt; "nodes {} events {}", counts.nodes, counts.events)?,
             Err(refusal) => print_refusal(rt, refusal)?,
         }
@@ -37,14 +37,9 @@ impl Desk {
     // Questions a level.
     pub fn question(&mut self, rt: &impl Print, asked: Question) -> io::Result<()> {
         let mut work = Work::lent(asked);
-        let reply = question(
-            self.state,
-            &self.tree,
-            &self.sheet,
-            asked.k,
-            asked.n,
-            &mut work.slices(),
-        );
+        let reply = self
+            .lent_pair()
+            .question(asked.k, asked.n, &mut work.slices());
         self.state = reply.state;
         print_outcome(rt, reply.outcome)?;
         self.print_after(rt)?;
@@ -57,14 +52,15 @@ impl Desk {
     pub fn question_at_hour(&mut self, rt: &impl Print, asked: Question) -> io::Result<()> {
         let mut buffer: ArrayVec<u8, 17500> = filled(238, self.buffer);
         let mut work = Work::lent(asked);
+        let at = BookAtHour {
+            book: &self.book,
+            hour: self.hour,
+        };
         let reply = question_at_hour(
-            self.state,
-            &self.tree,
-            &self.sheet,
-            &self.book,
+            self.lent_pair(),
+            at,
             asked.k,
             asked.n,
-            self.hour,
             &mut buffer,
             &mut work.slices(),
         );

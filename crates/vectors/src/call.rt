@@ -16,7 +16,7 @@ pub enum Call {
     Tree(usize),
     Sheet(usize),
     Drop,
-    // k and n.
+    // k and n, which may be no level.
     Judge(u32, u32),
     Question(Question),
     Count,
@@ -29,7 +29,7 @@ pub enum Call {
     HourQuestion(Question),
 }
 
-// Level k of n, and the lengths of the three work slices.
+// Level k of n, and the lengths of the three work slices. No `Level`: the list has calls whose k and n are none.
 #[derive(Clone, Copy)]
 pub struct Question {
     pub k: u32,

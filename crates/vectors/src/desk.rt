@@ -1,11 +1,13 @@
 // What the calls work on.
 use crate::lent::filled;
 use arrayvec::ArrayVec;
+use monitor::lent::{HeldPair, HeldTree};
 use monitor::state::State;
-use program_text::shown::print_after;
+use program_text::shown::write_after;
 use std::io;
 
 // The held state and the two stores, and what is lent at an hour: the book, the hour, and the length of the buffer.
+// The list sets how long the stores are and what they hold, which a `Held` does not allow.
 #[derive(Drop)]
 pub struct Desk {
     pub state: State,
@@ -20,10 +22,7 @@ impl Desk {
     // Nothing held, two empty stores, an empty book, hour 0 and no buffer.
     pub fn empty() -> Desk {
         Desk {
-            state: State {
-                tree_len: 0,
-                sheet_len: 0,
-            },
+            state: State::default(),
             tree: filled(0, 0),
             sheet: filled(0, 0),
             book: filled(0, 0),
@@ -32,8 +31,25 @@ impl Desk {
         }
     }
 
+    // What a call on the tree is lent.
+    pub fn lent_tree(&self) -> HeldTree<'_> {
+        HeldTree {
+            state: self.state,
+            tree_store: &self.tree,
+        }
+    }
+
+    // What a call on the pair is lent.
+    pub fn lent_pair(&self) -> HeldPair<'_> {
+        HeldPair {
+            state: self.state,
+            tree_store: &self.tree,
+            sheet_store: &self.sheet,
+        }
+    }
+
     // Prints the state and both stores.
     pub fn print_after(&self, rt: &impl Print) -> io::Result<()> {
-        print_after(rt, self.state, &self.tree, &self.sheet)
+        write_after(rt, self.lent_pair())
     }
 }

@@ -2,7 +2,9 @@
 use crate::desk::Desk;
 use crate::lent::filled;
 use arrayvec::ArrayVec;
-use monitor::hand_in::{Answer, drop_both, hand_in_sheet, hand_in_tree};
+use monitor::hand_in::{drop_both, hand_in};
+use monitor::held::{Sheet, Tree};
+use monitor::state::Reply;
 use program_text::no_answer::print_refusal;
 use program_text::read::read_full;
 use std::io;
@@ -14,24 +16,25 @@ pub fn read_file<const ROOM: usize>(rt: &impl Input, length: usize) -> ArrayVec<
     file
 }
 
+// Two functions hand in, each to its own store: one for both would be told which, and be no shorter.
 impl Desk {
     // Hands in a tree file of that length, which is read.
     pub fn hand_in_tree(&mut self, rt: &(impl Input + Print), length: usize) -> io::Result<()> {
         let file: ArrayVec<u8, 17500> = read_file(rt, length);
-        let answer = hand_in_tree(self.state, &file, &mut self.tree);
+        let answer = hand_in::<Tree>(self.state, &file, &mut self.tree);
         self.print_answer(rt, answer)
     }
 
     // Hands in an opinion sheet of that length, which is read.
     pub fn hand_in_sheet(&mut self, rt: &(impl Input + Print), length: usize) -> io::Result<()> {
         let file: ArrayVec<u8, 17500> = read_file(rt, length);
-        let answer = hand_in_sheet(self.state, &file, &mut self.sheet);
+        let answer = hand_in::<Sheet>(self.state, &file, &mut self.sheet);
         self.print_answer(rt, answer)
     }
 
-    fn print_answer(&mut self, rt: &impl Print, answer: Answer) -> io::Result<()> {
+    fn print_answer(&mut self, rt: &impl Print, answer: Reply<()>) -> io::Result<()> {
         self.state = answer.state;
-        match answer.verdict {
+        match answer.outcome {
             Ok(()) => println!(rt; "accepted")?,
             Err(refusal) => print_refusal(rt, refusal)?,
         }

@@ -25,7 +25,7 @@ pub fn poke(store: &mut [u8], place: usize, byte: u8) {
     }
 }
 
-// The work slices of a question.
+// The work slices of a question: three, as the monitor is lent them.
 #[derive(Drop)]
 pub struct Work {
     pub lower: ArrayVec<u32, 1100>,

@@ -34,14 +34,15 @@ impl Desk {
     }
 }
 
-// A proved loop has to end, so there is a most number of calls.
-pub fn run(rt: &(impl Input + Print)) -> io::Result<()> {
+// A proved loop has to end, so there is a most number of calls. Each program with a list has such a loop: one for all
+// would take what reads and what answers as closures, and be no shorter.
+pub fn run(rt: &(impl Input + Print)) {
     let mut desk = Desk::empty();
     for _ in 0..100000u64 {
         let Some(call) = read_call(rt) else {
-            return Ok(());
+            return;
         };
-        desk.answer(rt, call)?;
+        // Where a write fails, the list is read on.
+        let _ = desk.answer(rt, call);
     }
-    Ok(())
 }

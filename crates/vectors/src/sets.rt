@@ -19,8 +19,8 @@ fn print_count(rt: &impl Print, outcome: Result<u64, Refusal>) -> io::Result<()>
     }
 }
 
-// Prints sums that do not depend on the order of the listed sets, of their numbers and of the squares of these, and how
-// many places behind them still hold the fill.
+// Of a lent slice with so many sets at its front prints sums that do not depend on their order, of their numbers and
+// of the squares of these, and how many places behind them still hold the fill.
 fn print_sets(rt: &impl Print, count: usize, sets: &[u64]) -> io::Result<()> {
     let (listed, others) = sets.split_at(count.min(sets.len()));
     let numbers = listed
@@ -36,14 +36,14 @@ fn print_sets(rt: &impl Print, count: usize, sets: &[u64]) -> io::Result<()> {
 impl Desk {
     // Counts the sets.
     pub fn count(&self, rt: &impl Print) -> io::Result<()> {
-        print_count(rt, count_sets(self.state, &self.tree))?;
+        print_count(rt, count_sets(self.lent_tree()))?;
         self.print_after(rt)
     }
 
     // Lists the sets in a slice of so many places.
     pub fn list(&mut self, rt: &impl Print, places: usize) -> io::Result<()> {
         let mut sets: ArrayVec<u64, 4096> = filled(FILL, places);
-        let reply = list_sets(self.state, &self.tree, &mut sets);
+        let reply = list_sets(self.lent_tree(), &mut sets);
         self.state = reply.state;
         print_count(rt, reply.outcome)?;
         self.print_after(rt)?;

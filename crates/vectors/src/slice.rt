@@ -3,7 +3,9 @@ use program_text::checksum::checksum;
 use program_text::shown::WHOLE;
 use std::fmt;
 
-// Every place of a slice where they are few, else their number, the first and the last, and their checksum.
+// Every place of a slice where they are few, else their number, the first and the last, and their checksum. A store
+// in hex (program_text) has the same shape: one for both would be told the base, the width, what parts them and the
+// word for none.
 #[derive(Drop)]
 pub struct Slice<'a, T>(pub &'a [T]);
 

@@ -9,13 +9,13 @@ use lib.ListN.{length}
 use lib.Dec.{leb, ltb, eqb}
 use borrow.Author.Tests.{leb-true, leb-false, le-leb, lt-leb, ltb-true, ltb-false, lt-ltb, le-ltb, eqb-true, eqb-false}
 use borrow.Author.Tests.{eq-eqb, ne_eqb}
-use Rattle.refusals.specs.FirstFault.{unless, ◌or_else◌, first_of, first_among}
+use Rattle.refusals.specs.FirstFault.{FirstFault, unless, ◌or_else◌, first_of, first_among}
 use Rattle.refusals.specs.Order.{refusal, stage, order_place, Earlier, by_place, Finds}
 use Rattle.refusals.specs.declared.rule.Rule.TheVariants.{WrongBook}
 use Rattle.refusals.specs.declared.refusal.Refusal.{Refusal}
 use Rattle.std.specs.Prelude.{Ok}
 use Rattle.refusals.proofs.FirstFault.{AllAbsent, first_of_absent, among_each, among_absent}
-use Rattle.refusals.proofs.FirstFault.{unless_holds}
+use Rattle.refusals.proofs.FirstFault.{or_else_absent, unless_holds}
 use Rattle.refusals.proofs.Finds.{Case, Among, finds_same, finds_unless, finds_either, finds_last, finds_rule}
 use Rattle.refusals.proofs.Finds.{finds_among}
 use Rattle.work_windows.specs.Book.{window_length, most_book, window_count, event_place, end_place, window_event}
@@ -146,3 +146,9 @@ module _ (E : ℕ) (book : List ℕ) where
       (λ e. finds_last (Among Window (window_count book)) windows_fault
       (finds_windows (right_says _ (unless_holds _ _ _ e))))
       (λ r q a b. absurd (true≢false (sym (none_in_wrong q b) ∙ wrong_shows _ a.0))))
+
+-- a book of a right length has the fault of its windows
+pub windows_judged : (E : ℕ) (book : List ℕ) → length_rule (length book) ≡ true → (found : FirstFault)
+    → found ≡ first_among (window_fault E book) (window_count book) → found ≡ book_fault E book
+unfolding book_fault
+windows_judged E book e found q = rw (e, or_else_absent (first_among (window_fault E book) (window_count book))) q

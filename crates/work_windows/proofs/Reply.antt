@@ -22,8 +22,9 @@ use Rattle.monitor.specs.Promise.{PromisesKept}
 use Rattle.monitor.specs.declared.state.State.{State}
 use Rattle.std.specs.Prelude.{Result}
 use Rattle.monitor.specs.declared.question.Report.{Report}
-use Rattle.monitor.specs.declared.question.Reply.{Reply}
+use Rattle.monitor.specs.declared.state.Reply.{Reply}
 use Rattle.monitor.proofs.Ready.{ReadyPair, ready_pair}
+use Rattle.work_windows.specs.BookRules.{book_fault}
 use Rattle.work_windows.specs.Sheet.{written_sheet}
 use Rattle.work_windows.specs.Question.{lent_rules, hour_rules, written_buffer, hour_outcome}
 use Rattle.work_windows.specs.Question.{buffer_left, hour_slices}
@@ -128,7 +129,7 @@ module _ (state : State) (tree_store sheet_store book : List ℕ) (k n hour : �
               ap (take state.sheet_len) w ∙ sheet_front sheet writable.length_value _ _ sheet_length _
 
           -- answered: what the question gives for the buffer
-          pub answered_all : (after : List ℕ) → after ≡ written ++ drop (length sheet) buffer → (reply : Reply)
+          pub answered_all : (after : List ℕ) → after ≡ written ++ drop (length sheet) buffer → (reply : Reply Report)
               → reply ≡ reply_of state tree_store after k n s → (left : Slices)
               → left ≡ slices_left state tree_store after k n s
               → PromisesKept billion reply.outcome tree (held_sheet state after) k n left
@@ -136,7 +137,7 @@ module _ (state : State) (tree_store sheet_store book : List ℕ) (k n hour : �
           unfolding hour_outcome buffer_left hour_slices
           answered_all after w reply er left es kept =
               rw (ready_fault (Ok tt) t) (
-                ap (λ (x : Reply). x.outcome) er ∙ ap (λ (b : List ℕ). outcome_of state tree_store b k n s) (buffer_is after w),
+                ap (λ (x : Reply Report). x.outcome) er ∙ ap (λ (b : List ℕ). outcome_of state tree_store b k n s) (buffer_is after w),
                 (
                   buffer_is after w,
                   (
@@ -146,3 +147,9 @@ module _ (state : State) (tree_store sheet_store book : List ℕ) (k n hour : �
                   ),
                 ),
               )
+
+-- What is lent has the fault of the book, where that has one: 29.
+pub lent_book : (E N held : ℕ) (book : List ℕ) (room : ℕ) (s : Slices) (found : FirstFault)
+    → found ≡ book_fault E book → (r : Refusal) → found ≡ Err r
+    → ◌≡◌ {A = FirstFault} (Err r) (first_of (lent_rules E N held book room s))
+lent_book E N held book room s found judged r e = rw (sym judged ∙ e)

@@ -1,9 +1,10 @@
 -- The windows written one after the other: what holds at each turn, and what the hour's sheet asks and leaves.
-use Prim.Native.Nat.{ℕ, ◌+◌}
+use Prim.Native.Nat.{ℕ, ◌+◌, ◌≤◌}
 use mathlib.Core.Path.{◌≡◌, refl, ap, ◌∙◌}
 use mathlib.Core.Bool.{true, false}
 use mathlib.Core.List.{List, ◌++◌}
 use native.Mathlib.Numerals.{add-one}
+use native.Mathlib.Omega.{arith}
 use lib.ListN.{length, take, drop}
 use lib.Seq.{take-length}
 use Rattle.opinion_sheet.specs.Format.{unit}
@@ -31,6 +32,13 @@ pub written_more : (U : ℕ) (book : List ℕ) (hour : ℕ) (before buffer : Lis
     → after ≡ windows_written U book hour (i + 1) before
 unfolding windows_written
 written_more U book hour before buffer i w after e = simp (e, w, add-one) refl
+
+-- All are written.
+pub writing_ends : (U : ℕ) (book : List ℕ) (count hour : ℕ) (before buffer : List ℕ) (i : ℕ) → i ≤ count
+    → buffer ≡ windows_written U book hour i before → count ≤ i → buffer ≡ windows_written U book hour count before
+writing_ends U book count hour before buffer i within w l =
+    let all : i ≡ count = omega arith in
+    w ∙ ap (λ (m : ℕ). windows_written U book hour m before) all
 
 -- The sheet copied to the front of the buffer, and the windows written over it.
 module _ (sheet book buffer : List ℕ) (w : Writable sheet book buffer) (copied : List ℕ)

@@ -12,7 +12,7 @@ use Rattle.monitor.specs.Standing.{held_tree, held_sheet, level_rules, short_sli
 use Rattle.monitor.specs.Question.{outcome_of, slices_by, slices_left}
 use Rattle.monitor.specs.declared.state.State.{State}
 use Rattle.monitor.specs.declared.question.Report.{Report}
-use Rattle.monitor.specs.declared.question.Reply.{Reply}
+use Rattle.monitor.specs.declared.state.Reply.{Reply}
 use Rattle.work_windows.specs.BookRules.{book_fault}
 use Rattle.work_windows.specs.Sheet.{written_sheet}
 
@@ -57,7 +57,7 @@ module _ (state : State) (tree_store sheet_store book : List â„•) (k n hour : â„
   hour_outcome = outcome_by (first_of hour_rules) (outcome_of state tree_store written_buffer k n s)
 
   -- the state comes back as it was
-  abbrev pub hour_reply : Reply
+  abbrev pub hour_reply : Reply Report
   hour_reply = record { state = state; outcome = hour_outcome }
 
   -- the hour's sheet at the front of the buffer, the rest as it was

@@ -31,7 +31,7 @@ impl Window {
     pub fn is_open(self, hour: u32) -> bool
         ensures { result ≡ open_in self hour }
     {
-        (self.first <= hour) & (hour < self.end)
+        (self.first..self.end).contains(&hour)
     }
 }
 
@@ -54,7 +54,8 @@ pub fn window_at(book: &[u8], i: usize) -> Window
     Window { event, first, end }
 }
 
-// The fault of window i of a book for so many basic events: its event, then its end.
+// The fault of window i of a book for so many basic events: its event, then its end. Both are asked for together by
+// the three rules here alone: a struct of them would be made once and taken apart at once.
 fn judge_window(book: &[u8], i: usize, events: usize) -> Result<(), Refusal>
     requires { i < window_count book.now }
     ensures { result ≡ window_fault events book.now i }

@@ -26,5 +26,5 @@ pub fn judge_lent(
     if room < sheet_len {
         return Err(Rule::ShortBuffer.at(0));
     }
-    judge_slices(counts.nodes, slices)
+    judge_slices(counts.nodes, slices.stored())
 }

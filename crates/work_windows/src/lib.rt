@@ -3,6 +3,7 @@
 #![tactic(auto)]
 
 mod book;
+pub mod hour;
 mod judge;
 pub mod question;
 mod sheet;

@@ -7,12 +7,14 @@ ghost use Rattle.work_windows.specs.Writing.{EntriesInside, EntryInside, Writabl
 ghost use Rattle.work_windows.specs.Writing.{windows_written, with_certain};
 
 use crate::book::{window_at, window_count};
+use crate::hour::BookAtHour;
 use fields::write::four_bytes;
 use opinion_sheet::format::{ENTRY_LENGTH, HEADER_LENGTH};
 use opinion_sheet::kind::EntryKind;
 use rounding::unit::UNIT;
 
-// The number entry (U, U, U, U): its kind, and four times U.
+// The number entry (U, U, U, U): its kind, and four times U. It is less than a writer of any four numbers, as mirror
+// has one, which opinion_sheet would hold for these two alone.
 fn certain_entry() -> [u8; ENTRY_LENGTH]
     ensures { result ≡ certain_entry billion }
 {
@@ -32,26 +34,31 @@ fn put_certain(event: usize, buffer: &mut [u8])
     byte_copy::copy(&certain_entry(), &mut buffer[place..]);
 }
 
-// Puts the event of each window that is open, one after the other.
-#[tactic(auto, unfolding(crate::specs::Writing::windows_written))]
-fn put_windows(book: &[u8], hour: u32, buffer: &mut [u8])
-    requires { EntriesInside book.now (window_count book.now) buffer.old }
-    ensures { buffer.new ≡ windows_written billion book.now hour (window_count book.now) buffer.old }
-{
-    for i in 0..window_count(book) {
-        let window = window_at(book, i);
-        if window.is_open(hour) {
-            put_certain(window.event, buffer);
+impl BookAtHour<'_> {
+    // Puts the event of each window that is open, one after the other.
+    #[tactic(auto, unfolding(crate::specs::Writing::windows_written))]
+    fn put_windows(self, buffer: &mut [u8])
+        requires { EntriesInside self.book.now (window_count self.book.now) buffer.old }
+        ensures { buffer.new
+            ≡ windows_written billion self.entry.book.now self.entry.hour (window_count self.entry.book.now)
+            buffer.old }
+    {
+        for i in 0..window_count(self.book) {
+            let window = window_at(self.book, i);
+            if window.is_open(self.hour) {
+                put_certain(window.event, buffer);
+            }
         }
     }
-}
 
-// Writes the sheet of an hour to the front of the buffer: the held one, and over it each event that is out of service.
-pub fn write_sheet(sheet: &[u8], book: &[u8], hour: u32, buffer: &mut [u8])
-    requires { Writable sheet.now book.now buffer.old }
-    ensures { buffer.new ≡ written_sheet sheet.now book.now hour
-        ++ drop (length sheet.now) buffer.old }
-{
-    byte_copy::copy(sheet, buffer);
-    put_windows(book, hour, buffer);
+    // Writes the sheet of the hour to the front of the buffer: the held one, and over it each event that is out of
+    // service.
+    pub fn write_sheet(self, sheet: &[u8], buffer: &mut [u8])
+        requires { Writable sheet.now self.book.now buffer.old }
+        ensures { buffer.new ≡ written_sheet sheet.now self.entry.book.now self.entry.hour
+            ++ drop (length sheet.now) buffer.old }
+    {
+        byte_copy::copy(sheet, buffer);
+        self.put_windows(buffer);
+    }
 }

@@ -1,7 +1,5 @@
 -- What the root's place holds is the report.
-use Rattle.std.proofs.Common.{suc, ◌-◌}
-use Rattle.evaluation.proofs.Reporting.{left_long}
-use Rattle.monitor.proofs.Answer.{report_read, root_placed}
+use Rattle.monitor.proofs.Answer.{report_counted, root_placed}
 use Rattle.monitor.proofs.question.answered.Goals as goal
 
 pub ends-ends-requires : goal.ends-ends-requires
@@ -10,5 +8,5 @@ ends-ends-requires c =
 
 pub returns-clause-value : goal.returns-clause-value
 returns-clause-value c =
-    report_read _ _ _ _ _ c.requires.evaluable c.args.level.in_range _ c.evaluate.ensures.value _ c.requires.counts_value _
-    c.ends-ends.ensures
+    report_counted _ _ _ _ _ c.requires.evaluable c.args.level.in_range _ c.evaluate.ensures.value _
+    c.requires.counts_value _ c.ends-ends.ensures

@@ -6,4 +6,5 @@ use Rattle.opinion_sheet.proofs.CutScaled.{cut_whole}
 use Rattle.opinion_sheet.proofs.cut.cut_numbers.Goals as goal
 
 pub returns : goal.returns
-returns c = c.cut_of.ensures ∙ cut_whole billion (lit< tt) c.args.x _ _ c.args.level.in_range.n_positive
+returns c =
+    c.cut_of.ensures ∙ rw c.into.ensures (cut_whole billion (lit< tt) c.args.x _ _ c.args.level.in_range.n_positive)

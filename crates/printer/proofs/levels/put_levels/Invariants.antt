@@ -7,8 +7,8 @@ use Rattle.printer.proofs.levels.put_levels.Given as goal
 
 abbrev pub invariant-loop-k : goal.invariant-loop-k
 invariant-loop-k l =
-    let tree = held_tree l.state l.tree_store in
-    let sheet = held_sheet l.state l.sheet_store in
+    let tree = held_tree l.held.state l.held.tree_store.now in
+    let sheet = held_sheet l.held.state l.held.sheet_store.now in
     record {
       room : length l.draft + most_line * (l.k + 1) ≤ most_text;
       whole : l.draft ++ lines_below tree sheet l.n (suc l.k) ≡ levels_text tree sheet l.n;

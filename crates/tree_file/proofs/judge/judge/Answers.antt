@@ -9,12 +9,13 @@ returns-in_err-judge_header c =
     let p = err_from_is_err_and c.from_residual.result c.from_residual.ensures.1 in
     rw (p.1, p.2) (header_refused _ _ c.judge_header.ensures _ (c.in_err-judge_header.was))
 
-pub node_count-nodes-requires : goal.node_count-nodes-requires
-node_count-nodes-requires c = header_long _ _ c.judge_header.ensures (c.in_ok-judge_header.was)
+pub node_count-requires : goal.node_count-requires
+node_count-requires c = header_long _ _ c.judge_header.ensures (c.in_ok-judge_header.was)
 
-pub judge_records-requires : goal.judge_records-requires
-judge_records-requires c =
-    sized _ _ c.judge_header.ensures (c.in_ok-judge_header.was) _ c.node_count-nodes.ensures
+pub invariant_of-sized : goal.invariant_of-sized
+invariant_of-sized c = record {
+  sized = sized _ _ c.judge_header.ensures (c.in_ok-judge_header.was) _ c.node_count.ensures;
+}
 
 pub returns-in_err-counts : goal.returns-in_err-counts
 returns-in_err-counts c =
@@ -25,10 +26,8 @@ returns-in_err-counts c =
 
 pub judge_links-requires : goal.judge_links-requires
 judge_links-requires c =
-    let header = c.in_ok-judge_header.was in (
-      sized _ _ c.judge_header.ensures header _ c.node_count-nodes.ensures,
-      records_absent _ _ c.judge_header.ensures header _ c.judge_records.ensures _ (c.in_ok-counts.was),
-    )
+    records_absent _ _ c.judge_header.ensures (c.in_ok-judge_header.was) _ c.judge_records.ensures _
+    (c.in_ok-counts.was)
 
 pub returns-in_err-judge_links : goal.returns-in_err-judge_links
 returns-in_err-judge_links c =

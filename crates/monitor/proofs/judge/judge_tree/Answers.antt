@@ -1,9 +1,0 @@
--- A tree is held and judged, or none is held.
-use Rattle.monitor.proofs.Standing.{tree_missing, tree_judged}
-use Rattle.monitor.proofs.judge.judge_tree.Goals as goal
-
-pub returns-then-state-eq0 : goal.returns-then-state-eq0
-returns-then-state-eq0 c = tree_missing _ _ _ c.at.ensures c.if-state-eq0.true
-
-pub returns : goal.returns
-returns c = tree_judged _ _ c.if-state-eq0.false _ c.judge_held.ensures
