@@ -52,7 +52,8 @@ fn padded_entry(kind: u8, held: &[u8]) -> [u8; ENTRY_LENGTH]
     entry
 }
 
-// The four low bytes of a number.
+// The four low bytes of a number. Tried by `four_bytes`, which takes 32 bits: without a bound of the number the cast
+// was not proved.
 fn low_bytes(n: u64) -> [u8; 4]
     ensures { result ≡ bytes32 n }
 {
