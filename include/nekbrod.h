@@ -68,7 +68,8 @@ typedef struct nekbrod_state {
 #define NEKBROD_UNKNOWN_KIND 6u     /* unknown kind of record or entry: offset of its byte */
 #define NEKBROD_WRONG_FIELD 7u      /* a wrong field of a record: offset of the record; the inputs of all gates are too
                                        few: offset of the first link; a score out of rule: offset of the score */
-#define NEKBROD_NOT_BELOW 8u        /* a link that is not below its gate: offset of the link */
+#define NEKBROD_WRONG_LINK 8u       /* a link that is not below its gate: offset of the link */
+#define NEKBROD_NOT_BELOW NEKBROD_WRONG_LINK /* the same, as callers may have it */
 #define NEKBROD_LINKED_BEFORE 9u    /* a node that is linked a second time: offset of the second link */
 #define NEKBROD_NUMBER_ORDER 10u    /* four numbers out of order or above 1: offset of the entry */
 #define NEKBROD_WRONG_TERM 11u      /* a term above 7, or not 0 after the last expert: offset of the term */

@@ -5,7 +5,8 @@ import itertools
 import re
 import sys
 
-PROGRAMS = 'program_text levels level_cases hour_levels vectors mirror_vectors mirror_files node_lines cut_set_lines'.split()
+PROGRAMS = ('program_text levels level_cases hour_levels stored_calls limit_vectors random_order_vectors '
+            'generated_vectors mirror_vectors mirror_files node_lines cut_set_lines').split()
 words = sys.argv[1:]
 listed = '-l' in words
 crates = [w for w in words if w != '-l']

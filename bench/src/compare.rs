@@ -13,7 +13,7 @@ use reference::cases::limits::LIMITS;
 use reference::cases::mirror_list::mirror_list;
 use reference::cases::mirrors::MIRROR_CASES;
 use reference::cases::valid::{lively_pair, small_tree};
-use reference::cases::vector_list::vector_list;
+use reference::cases::vector_list::{vector_list, Family, FAMILIES};
 use reference::cases::{is_input, write_case, Kind};
 use reference::cut::Level;
 use reference::describe::book_bytes;
@@ -40,11 +40,11 @@ pub struct Cases {
     pub first: u64,
 }
 
-/// What is run: the stored calls, those of the mirror, the limits, the faults in large files and a round of fraction
-/// entries and of pairs to be mirrored come before the generated cases of a whole run.
+/// What is run: each family of stored calls, those of the mirror, the limits, the faults in large files and a round of
+/// fraction entries and of pairs to be mirrored come before the generated cases of a whole run.
 #[derive(Clone, Copy, Debug)]
 pub enum Case {
-    Stored,
+    Stored(&'static str, Family),
     StoredMirrors,
     Limit(u64),
     Large(u64),
@@ -64,7 +64,7 @@ impl Case {
 
     fn run(self, desk: &mut Desk, seed: u64) -> Result<(), (usize, Difference)> {
         let (calls, mirror_seed) = match self {
-            Case::Stored => (vector_list(), seed),
+            Case::Stored(_, family) => (vector_list(family), seed),
             Case::StoredMirrors => return run_mirrors(desk, &mirror_list()),
             Case::Limit(index) => (listed_calls(Kind::Limits, seed, index), seed ^ index),
             Case::Large(index) => (listed_calls(Kind::Large, seed, index), seed ^ index),
@@ -79,7 +79,7 @@ impl Case {
 impl Display for Case {
     fn fmt(&self, out: &mut Formatter) -> fmt::Result {
         match self {
-            Case::Stored => write!(out, "stored calls"),
+            Case::Stored(name, _) => write!(out, "stored calls, {name}"),
             Case::StoredMirrors => write!(out, "stored calls of the mirror"),
             Case::Limit(index) => write!(out, "limit {index}"),
             Case::Large(index) => write!(out, "fault {index} in a large file"),
@@ -104,7 +104,8 @@ pub fn compare(cases: Cases) -> (Tally, Result<(), Found>) {
     let mut tally = Tally::default();
     let listed = (0..LIMITS.len() as u64).map(Case::Limit).chain((0..LARGE_DAMAGES as u64).map(Case::Large));
     let listed = listed.chain((0..FRACTION_CASES).map(Case::Fractions)).chain((0..MIRROR_CASES).map(Case::Mirrors));
-    let first = [Case::Stored, Case::StoredMirrors].into_iter().chain(listed).filter(|_| cases.first == 0);
+    let stored = FAMILIES.map(|(name, family)| Case::Stored(name, family)).into_iter().chain([Case::StoredMirrors]);
+    let first = stored.chain(listed).filter(|_| cases.first == 0);
     let generated = (cases.first..cases.first.saturating_add(cases.count)).map(Case::Generated);
     for case in first.chain(generated) {
         let mut desk = Desk::new(&[CAPI, PEER]);

@@ -6,7 +6,7 @@ use reference::cases::large_damage::LARGE_DAMAGES;
 use reference::cases::limits::LIMITS;
 use reference::cases::mirror_list::mirror_list;
 use reference::cases::mirrors::MIRROR_CASES;
-use reference::cases::vector_list::vector_list;
+use reference::cases::vector_list::{parse_family, vector_list, FAMILIES};
 use reference::cases::windows::WINDOW_CASES;
 use reference::cases::{file_name, parse_kind, write_case, Kind};
 use reference::compare::{compare, printer_of, report, Cases};
@@ -33,8 +33,9 @@ reference cut-sets < tree                      the minimal cut sets of a tree fi
 reference calls < list                         a list of calls (src/calls.rs says the format)
 reference each levels|hours|nodes|mirror|cut-sets|calls < stream
     the same for each framed case; the answers are framed alike
-reference vectors stream                       the stored list of calls as bytes (src/vectors.rs says the format)
-reference vectors text < stream                what crates/vectors must print for such bytes
+reference vectors families                     the families of stored calls, one a line
+reference vectors stream FAMILY                the calls of a family as bytes (src/vectors.rs says the format)
+reference vectors text < stream                what crates/FAMILY_vectors must print for such bytes
 reference mirror-vectors stream                stored calls of the mirror as bytes (src/mirror_calls.rs says the format)
 reference mirror-vectors text < stream         what crates/mirror_vectors must print for such bytes
 reference cases SEED COUNT KIND DIR|-          cases as files in DIR, or framed to standard output
@@ -107,7 +108,11 @@ fn run(words: &[&str]) -> Result<(), Failure> {
         ["each", "mirror"] => answer_each(print_mirror),
         ["each", "cut-sets"] => answer_each(print_sets),
         ["each", "calls"] => answer_each(|case| answer_list(case).0),
-        ["vectors", "stream"] => Ok(write_out(&write_stream(&vector_list()))?),
+        ["vectors", "families"] => Ok(write_out(FAMILIES.map(|(name, _)| format!("{name}\n")).concat().as_bytes())?),
+        ["vectors", "stream", family] => {
+            let calls = vector_list(parse_family(family).ok_or(Failure::Usage)?);
+            Ok(write_out(&write_stream(&calls))?)
+        }
         ["vectors", "text"] => {
             let text = stream_text(&read_in()?).ok_or(Failure::Broken)?;
             Ok(write_out(text.as_bytes())?)

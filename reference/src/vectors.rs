@@ -1,4 +1,4 @@
-//! A list of calls as bytes, as the program of crates/vectors reads it from standard input.
+//! A list of calls as bytes, as crates/stored_calls reads it from standard input for the program of a family.
 //!
 //! Each call is a byte that says which and five numbers of 32 bits, low byte first; a number that the call has no use
 //! for is 0. A file handed in, or a book, follows its call.
@@ -25,7 +25,7 @@ use crate::calls::{Call, Desk, Form};
 use crate::cut::Level;
 use crate::monitor::State;
 
-/// The room of the program of crates/vectors.
+/// The room of crates/stored_calls.
 pub const TREE_ROOM: usize = 7_200;
 pub const SHEET_ROOM: usize = 17_500;
 pub const FILE_ROOM: usize = 17_500;

@@ -3,7 +3,8 @@
 
 ghost use Rattle.std.specs.Prelude.{◌≡◌, ◌≤◌, ◌++◌, length, take, drop};
 
-// Copies all bytes of a slice to the front of another, which has room for them and keeps the rest, and answers how many.
+// Copies all bytes of a slice to the front of another, which has room for them and keeps the rest, and answers how
+// many.
 pub fn copy(from: &[u8], to: &mut [u8]) -> usize
     requires { length from.now ≤ length to.old }
     ensures count { result ≡ length from.now }

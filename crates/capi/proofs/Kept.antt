@@ -5,11 +5,11 @@ use Rattle.std.specs.Prelude.{Result, Ok, Err}
 use Rattle.theory.specs.Unit.{billion}
 use Rattle.refusals.specs.declared.refusal.Refusal.{Refusal as Reason}
 use Rattle.refusals.proofs.Numbered.{numbered}
-use Rattle.evaluation.specs.Slices.{Slices}
+use Rattle.work_slices.specs.Slices.{Slices}
 use Rattle.monitor.specs.Promise.{PromisesKept as outcome_kept}
-use Rattle.monitor.specs.declared.state.State.{State as Held}
+use Rattle.held_files.specs.declared.state.State.{State as Held}
 use Rattle.monitor.specs.declared.question.Report.{Report}
-use Rattle.capi.specs.Question.{reply_by, PromisesKept}
+use Rattle.c_structs.specs.Reply.{reply_by, PromisesKept}
 
 -- A reply with number 0 is an answered one.
 pub kept_by : (held : Held) (outcome : Result Report Reason) (tree sheet : List ℕ) (k n : ℕ) (s : Slices)

@@ -1,13 +1,13 @@
--- De Morgan's law of the mirror's answer for C, from mirror's of its outcome.
+-- De Morgan's law of the answer for C, from success_tree's of its outcome.
 use Prim.Native.Nat.{ℕ}
 use mathlib.Core.List.{List}
 use Rattle.std.specs.Prelude.{Ok, Err}
 use Rattle.theory.specs.Unit.{billion}
 use Rattle.refusals.specs.FirstFault.{FirstFault}
 use Rattle.refusals.proofs.Numbered.{numbered}
-use Rattle.monitor.specs.declared.state.State.{State as Held}
-use Rattle.mirror.specs.Law.{LawKept as outcome_kept}
-use Rattle.capi.specs.HandIn.{answer_by}
+use Rattle.held_files.specs.declared.state.State.{State as Held}
+use Rattle.success_tree.specs.Law.{LawKept as outcome_kept}
+use Rattle.c_structs.specs.Answer.{answer_by}
 use Rattle.capi.specs.Mirror.{LawKept}
 
 -- An answer with number 0 is of a mirrored pair.

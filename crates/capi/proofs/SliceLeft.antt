@@ -5,9 +5,9 @@ use mathlib.Core.List.{List}
 use Rattle.std.specs.Prelude.{Result, Ok, Err}
 use Rattle.refusals.specs.declared.refusal.Refusal.{Refusal as Reason}
 use Rattle.refusals.proofs.Numbered.{numbered}
-use Rattle.monitor.specs.declared.state.State.{State as Held}
+use Rattle.held_files.specs.declared.state.State.{State as Held}
 use Rattle.cut_sets.specs.Listed.{SetsLeft}
-use Rattle.capi.specs.CutSets.{listing_by, SliceLeft}
+use Rattle.c_structs.specs.SetCount.{listing_by, SliceLeft}
 
 -- An answer with number 0 is that of a listing that was made, any other that of a refused one.
 pub left_by : (held : Held) (outcome : Result ℕ Reason) (tree before after : List ℕ)

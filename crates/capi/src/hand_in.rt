@@ -1,35 +1,13 @@
 // Handing in a tree file or an opinion sheet, and dropping both.
 ghost use Rattle.std.specs.Prelude.{◌≡◌};
-ghost use Rattle.monitor.specs.HandIn.{tree_answer, tree_store, sheet_answer, sheet_store, nothing_held};
-ghost use Rattle.capi.specs.State.{held_of, state_of};
-ghost use Rattle.capi.specs.HandIn.{answer_for};
+ghost use Rattle.held_files.specs.HandIn.{tree_answer, tree_store, sheet_answer, sheet_store, nothing_held};
+ghost use Rattle.c_structs.specs.State.{held_of, state_of};
+ghost use Rattle.c_structs.specs.Answer.{answer_for};
 
-use crate::refusal::Refusal;
-use crate::state::State;
-use monitor::hand_in::{drop_both, hand_in};
-use monitor::held::{Sheet, Tree};
-use monitor::state::Reply;
-
-// What a hand-in or a mirroring answers: the state after it, and why it was refused, if it was.
-// The C interface has no Result: number 0 in the refusal says Ok.
-#[repr(C)]
-#[derive(Clone, Copy)]
-pub struct Answer {
-    pub state: State,
-    pub refusal: Refusal,
-}
-
-// The answer for C of a hand-in or a mirroring.
-impl From<Reply<()>> for Answer {
-    ghost from_gives = { λ reply answer. answer ≡ answer_for reply };
-
-    fn from(reply: Reply<()>) -> Answer {
-        Answer {
-            state: reply.state.into(),
-            refusal: reply.outcome.into(),
-        }
-    }
-}
+use c_structs::answer::Answer;
+use c_structs::state::State;
+use held_files::hand_in::{drop_both, hand_in};
+use held_files::held::{Sheet, Tree};
 
 // Hands in a tree file: an accepted one is copied to the front of its store and replaces the one held.
 pub fn nekbrod_hand_in_tree(state: State, file: &[u8], store: &mut [u8]) -> Answer

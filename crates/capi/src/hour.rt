@@ -1,17 +1,17 @@
 // Questioning a level at an hour, by a book of work windows.
 ghost use Rattle.std.specs.Prelude.{◌≡◌};
-ghost use Rattle.evaluation.specs.Slices.{slices};
-ghost use Rattle.monitor.specs.Standing.{held_tree, held_sheet};
-ghost use Rattle.work_windows.specs.Sheet.{written_sheet};
+ghost use Rattle.work_slices.specs.Slices.{slices};
+ghost use Rattle.held_pair.specs.Standing.{held_tree, held_sheet};
+ghost use Rattle.hour_sheet.specs.Sheet.{written_sheet};
 ghost use Rattle.work_windows.specs.Question.{buffer_left, hour_reply, hour_slices};
-ghost use Rattle.capi.specs.State.{held_of};
-ghost use Rattle.capi.specs.Question.{reply_for, PromisesKept};
+ghost use Rattle.c_structs.specs.State.{held_of};
+ghost use Rattle.c_structs.specs.Reply.{reply_for, PromisesKept};
 
-use crate::question::Reply;
-use crate::state::State;
-use evaluation::slices::WorkSlices;
-use monitor::lent::HeldPair;
-use work_windows::hour::BookAtHour;
+use c_structs::reply::Reply;
+use c_structs::state::State;
+use held_pair::lent::HeldPair;
+use hour_sheet::hour::BookAtHour;
+use work_slices::slices::WorkSlices;
 use work_windows::question::question_at_hour;
 
 // Questions level k of n at an hour: the hour's sheet is written to the buffer. The last promise is demands 2 and 3 of

@@ -1,62 +1,15 @@
 // Counting and listing the minimal cut sets of the held tree. No sheet is needed.
 ghost use Rattle.std.specs.Prelude.{◌≡◌, length};
-ghost use Rattle.monitor.specs.Standing.{held_tree};
+ghost use Rattle.held_pair.specs.Standing.{held_tree};
 ghost use Rattle.cut_sets.specs.Judged.{count_outcome, reply_of};
-ghost use Rattle.capi.specs.State.{held_of};
-ghost use Rattle.capi.specs.CutSets.{count_for, listing_for, SliceLeft};
+ghost use Rattle.c_structs.specs.State.{held_of};
+ghost use Rattle.c_structs.specs.SetCount.{count_for, listing_for, SliceLeft};
 
-use crate::refusal::Refusal;
-use crate::state::State;
+use c_structs::set_count::{Listing, SetCount};
+use c_structs::state::State;
 use cut_sets::count::count_sets;
 use cut_sets::list::list_sets;
-use monitor::lent::HeldTree;
-use monitor::state::Reply;
-use refusals::refusal::Refusal as Reason;
-
-// What counting answers: why it was refused, if it was, and the number of minimal cut sets, 0 where refused.
-// The C interface has no Result: number 0 in the refusal says Ok.
-#[repr(C)]
-#[derive(Clone, Copy)]
-pub struct SetCount {
-    pub refusal: Refusal,
-    pub count: u64,
-}
-
-// What listing answers: the state, unchanged; why it was refused, if it was; and the number of sets, 0 where refused.
-// The C interface has no Result: number 0 in the refusal says Ok.
-#[repr(C)]
-#[derive(Clone, Copy)]
-pub struct Listing {
-    pub state: State,
-    pub refusal: Refusal,
-    pub count: u64,
-}
-
-// The answer for C of a count.
-impl From<Result<u64, Reason>> for SetCount {
-    ghost from_gives = { λ outcome answer. answer ≡ count_for outcome };
-
-    fn from(outcome: Result<u64, Reason>) -> SetCount {
-        SetCount {
-            refusal: outcome.into(),
-            count: outcome.unwrap_or(0),
-        }
-    }
-}
-
-// The answer for C of a listing.
-impl From<Reply<u64>> for Listing {
-    ghost from_gives = { λ reply listing. listing ≡ listing_for reply };
-
-    fn from(reply: Reply<u64>) -> Listing {
-        let SetCount { refusal, count } = reply.outcome.into();
-        Listing {
-            state: reply.state.into(),
-            refusal,
-            count,
-        }
-    }
-}
+use held_pair::lent::HeldTree;
 
 // Counts the minimal cut sets of the held tree: refusals 21, 23 and 26, or their number.
 pub fn nekbrod_count_cut_sets(state: State, tree_store: &[u8]) -> SetCount

@@ -1,69 +1,16 @@
 // Questioning a level: every node's ends and marks go to the lent work slices, and the root's are answered.
 ghost use Rattle.std.specs.Prelude.{◌≡◌};
-ghost use Rattle.evaluation.specs.Slices.{slices};
-ghost use Rattle.monitor.specs.Standing.{held_tree, held_sheet};
+ghost use Rattle.work_slices.specs.Slices.{slices};
+ghost use Rattle.held_pair.specs.Standing.{held_tree, held_sheet};
 ghost use Rattle.monitor.specs.Question.{reply_of, slices_left};
-ghost use Rattle.capi.specs.State.{held_of};
-ghost use Rattle.capi.specs.Question.{reply_for, PromisesKept};
+ghost use Rattle.c_structs.specs.State.{held_of};
+ghost use Rattle.c_structs.specs.Reply.{reply_for, PromisesKept};
 
-use crate::refusal::Refusal;
-use crate::state::State;
-use evaluation::slices::WorkSlices;
-use monitor::lent::HeldPair;
-use monitor::question::Report;
-use monitor::state::Reply as Replied;
-use rounding::end::{Enclosure, End};
-use rounding::unit::UNIT;
-
-// What a question answers: the state, unchanged; why it was refused, if it was; the root's ends in units, each with its
-// mark, and the number of basic events (E). Refused, it has the enclosure that says nothing: 0 to 1, unmarked.
-// The C interface has no Result: number 0 in the refusal says Ok.
-#[repr(C)]
-#[derive(Clone, Copy)]
-pub struct Reply {
-    pub state: State,
-    pub refusal: Refusal,
-    pub lower: u32,
-    pub upper: u32,
-    pub lower_exact: bool,
-    pub upper_exact: bool,
-    pub events: usize,
-}
-
-// The report that says nothing: 0 to 1, unmarked.
-const NOTHING_SAID: Report = Report {
-    ends: Enclosure {
-        lower: End {
-            value: 0,
-            exact: false,
-        },
-        upper: End {
-            value: UNIT as u32,
-            exact: false,
-        },
-    },
-    events: 0,
-};
-
-// The reply of the monitor for C.
-impl From<Replied<Report>> for Reply {
-    ghost from_gives = { λ replied reply. reply ≡ reply_for replied };
-
-    fn from(replied: Replied<Report>) -> Reply {
-        let state = replied.state.into();
-        let refusal = replied.outcome.into();
-        let report = replied.outcome.unwrap_or(NOTHING_SAID);
-        Reply {
-            state,
-            refusal,
-            lower: report.ends.lower.value,
-            upper: report.ends.upper.value,
-            lower_exact: report.ends.lower.exact,
-            upper_exact: report.ends.upper.exact,
-            events: report.events,
-        }
-    }
-}
+use c_structs::reply::Reply;
+use c_structs::state::State;
+use held_pair::lent::HeldPair;
+use monitor::question::question;
+use work_slices::slices::WorkSlices;
 
 // Questions level k of n. The last promise is demands 2 and 3, of the reply and of every node's place in the slices.
 #[tactic(auto, using(crate::proofs::Kept::kept_by))]
@@ -97,5 +44,5 @@ pub fn nekbrod_question(
         upper,
         marks,
     };
-    held.question(k, n, &mut slices).into()
+    question(held, k, n, &mut slices).into()
 }

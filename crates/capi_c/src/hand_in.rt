@@ -1,11 +1,11 @@
 // Handing in a tree file or an opinion sheet, and dropping both.
 ghost use Rattle.std.specs.Prelude.{◌≡◌};
-ghost use Rattle.monitor.specs.HandIn.{tree_answer, tree_store, sheet_answer, sheet_store, nothing_held};
-ghost use Rattle.capi.specs.State.{held_of, state_of};
-ghost use Rattle.capi.specs.HandIn.{answer_for};
+ghost use Rattle.held_files.specs.HandIn.{tree_answer, tree_store, sheet_answer, sheet_store, nothing_held};
+ghost use Rattle.c_structs.specs.State.{held_of, state_of};
+ghost use Rattle.c_structs.specs.Answer.{answer_for};
 
-use capi::hand_in::Answer;
-use capi::state::State;
+use c_structs::answer::Answer;
+use c_structs::state::State;
 
 // Hands in a tree file: an accepted one is copied to the front of its store and replaces the one held.
 #[unsafe(no_mangle)]

@@ -1,11 +1,11 @@
 // Judging a level and both held files, before a question is put.
 ghost use Rattle.std.specs.Prelude.{◌≡◌};
-ghost use Rattle.monitor.specs.Standing.{standing_of};
-ghost use Rattle.capi.specs.State.{held_of};
-ghost use Rattle.capi.specs.Standing.{standing_for};
+ghost use Rattle.held_pair.specs.Standing.{standing_of};
+ghost use Rattle.c_structs.specs.State.{held_of};
+ghost use Rattle.c_structs.specs.Standing.{standing_for};
 
-use capi::judge::Standing;
-use capi::state::State;
+use c_structs::standing::Standing;
+use c_structs::state::State;
 
 // Whether level k of n can be put to the held pair: refusals 13 and 21 to 24, or the tree's counts.
 #[unsafe(no_mangle)]

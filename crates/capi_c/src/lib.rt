@@ -2,10 +2,10 @@
 // The C interface needs each signature and clause again: only an exported function has a C name.
 #![tactic(auto)]
 
+mod dual_pair;
 mod hand_in;
 mod hour;
 mod judge;
 mod minimal_cut_sets;
 mod question;
-mod success_tree;
 mod version;

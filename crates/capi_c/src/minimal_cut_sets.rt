@@ -1,12 +1,12 @@
 // Counting and listing the minimal cut sets of the held tree.
 ghost use Rattle.std.specs.Prelude.{◌≡◌, length};
-ghost use Rattle.monitor.specs.Standing.{held_tree};
+ghost use Rattle.held_pair.specs.Standing.{held_tree};
 ghost use Rattle.cut_sets.specs.Judged.{count_outcome, reply_of};
-ghost use Rattle.capi.specs.State.{held_of};
-ghost use Rattle.capi.specs.CutSets.{count_for, listing_for, SliceLeft};
+ghost use Rattle.c_structs.specs.State.{held_of};
+ghost use Rattle.c_structs.specs.SetCount.{count_for, listing_for, SliceLeft};
 
-use capi::minimal_cut_sets::{Listing, SetCount};
-use capi::state::State;
+use c_structs::set_count::{Listing, SetCount};
+use c_structs::state::State;
 
 // Counts the minimal cut sets of the held tree: refusals 21, 23 and 26, or their number.
 #[unsafe(no_mangle)]

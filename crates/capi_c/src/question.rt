@@ -1,13 +1,13 @@
 // Questioning a level.
 ghost use Rattle.std.specs.Prelude.{◌≡◌};
-ghost use Rattle.evaluation.specs.Slices.{slices};
-ghost use Rattle.monitor.specs.Standing.{held_tree, held_sheet};
+ghost use Rattle.work_slices.specs.Slices.{slices};
+ghost use Rattle.held_pair.specs.Standing.{held_tree, held_sheet};
 ghost use Rattle.monitor.specs.Question.{reply_of, slices_left};
-ghost use Rattle.capi.specs.State.{held_of};
-ghost use Rattle.capi.specs.Question.{reply_for, PromisesKept};
+ghost use Rattle.c_structs.specs.State.{held_of};
+ghost use Rattle.c_structs.specs.Reply.{reply_for, PromisesKept};
 
-use capi::question::Reply;
-use capi::state::State;
+use c_structs::reply::Reply;
+use c_structs::state::State;
 
 // Questions level k of n. The last promise is demands 2 and 3, of the reply and of every node's place in the slices.
 #[unsafe(no_mangle)]

@@ -2,9 +2,9 @@
 use crate::line::Line;
 use cut_sets::count::count_sets;
 use cut_sets::list::list_sets;
-use program_text::held::Held;
-use program_text::no_answer::NoAnswer;
-use program_text::read::read_full;
+use held_stores::held::Held;
+use printed::no_answer::NoAnswer;
+use program_input::read::read_full;
 
 // The most sets that are listed.
 const MOST_SETS: usize = 100000;

@@ -5,7 +5,7 @@
 mod answer;
 mod line;
 
-use program_text::no_answer::tell;
+use printed::no_answer::tell;
 
 fn main(rt: HostRuntime) {
     if let Err(no_answer) = answer::print_answer(&rt) {

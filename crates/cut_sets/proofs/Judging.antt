@@ -11,14 +11,14 @@ use Rattle.refusals.specs.declared.rule.Rule.TheVariants.{ManyEvents}
 use Rattle.refusals.specs.declared.refusal.Refusal.{Refusal}
 use Rattle.std.specs.Prelude.{Result, Ok, Err}
 use Rattle.refusals.proofs.FirstFault.{first_of_absent, first_of_append, unless_holds}
-use Rattle.tree_file.specs.Judged.{fault_of as tree_fault, counts_of as tree_counts}
-use Rattle.tree_file.specs.declared.judgement.Counts.{Counts}
-use Rattle.tree_file.proofs.Accepted.{accepted_well_formed}
-use Rattle.monitor.specs.Standing.{held_tree, tree_rules, tree_standing}
-use Rattle.monitor.specs.Question.{root}
-use Rattle.monitor.specs.declared.state.State.{State}
+use Rattle.tree_judging.specs.Judged.{fault_of as tree_fault, counts_of as tree_counts}
+use Rattle.tree_judging.specs.declared.judgement.Counts.{Counts}
+use Rattle.tree_judging.proofs.Accepted.{accepted_well_formed}
+use Rattle.held_pair.specs.Standing.{held_tree, tree_rules, tree_standing}
+use Rattle.tree_file.specs.NodeTable.{root}
+use Rattle.held_files.specs.declared.state.State.{State}
 use Rattle.refusals.proofs.FirstFault.{accepted_absent, refused_found}
-use Rattle.monitor.proofs.Ready.{unchanged}
+use Rattle.held_pair.proofs.Ready.{unchanged}
 use Rattle.node_sets.specs.Numbers.{most_events}
 use Rattle.node_sets.specs.Requirements.{Small}
 use Rattle.cut_sets.specs.Judged.{count_rules, count_standing, many_events}

@@ -15,10 +15,10 @@ use Rattle.refusals.specs.declared.refusal.Refusal.{Refusal}
 use Rattle.std.specs.Prelude.{Result, Ok, Err}
 use Rattle.refusals.proofs.FirstFault.{first_of_append, or_else_absent}
 use Rattle.tree_file.specs.NodeTable.{fault_tree}
-use Rattle.tree_file.specs.declared.judgement.Counts.{Counts}
-use Rattle.monitor.specs.Standing.{held_tree}
-use Rattle.monitor.specs.Question.{root}
-use Rattle.monitor.specs.declared.state.State.{State}
+use Rattle.tree_judging.specs.declared.judgement.Counts.{Counts}
+use Rattle.held_pair.specs.Standing.{held_tree}
+use Rattle.tree_file.specs.NodeTable.{root}
+use Rattle.held_files.specs.declared.state.State.{State}
 use Rattle.refusals.proofs.FirstFault.{accepted_absent, refused_found}
 use Rattle.cut_sets.specs.Judged.{count_outcome, count_rules, count_standing, list_outcome, list_rules}
 use Rattle.cut_sets.specs.Judged.{root_tree, set_count, short_list}

@@ -5,14 +5,14 @@ use Rattle.theory.specs.CutSetFamily.{family}
 use Rattle.refusals.specs.FirstFault.{FirstFault, unless, first_of, judged_by}
 use Rattle.refusals.specs.declared.refusal.Refusal.{Refusal}
 use Rattle.refusals.specs.declared.rule.Rule.TheVariants.{ManyEvents, ShortList}
-use Rattle.tree_file.specs.declared.judgement.Counts.{Counts}
+use Rattle.tree_judging.specs.declared.judgement.Counts.{Counts}
 use Rattle.tree_file.specs.Tallies.{event_count}
 use Rattle.tree_file.specs.NodeTable.{fault_tree}
-use Rattle.monitor.specs.Standing.{held_tree, standing, tree_rules}
-use Rattle.monitor.specs.Question.{root}
-use Rattle.monitor.specs.declared.state.State.{State}
+use Rattle.held_pair.specs.Standing.{held_tree, standing, tree_rules}
+use Rattle.tree_file.specs.NodeTable.{root}
+use Rattle.held_files.specs.declared.state.State.{State}
 use Rattle.node_sets.specs.Numbers.{most_events}
-use Rattle.monitor.specs.declared.state.Reply.{Reply}
+use Rattle.held_files.specs.declared.state.Reply.{Reply}
 
 -- The tree of the root.
 abbrev pub root_tree : List ℕ → Tree

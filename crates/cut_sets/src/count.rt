@@ -6,7 +6,7 @@ ghost use Rattle.cut_sets.specs.Judged.{count_outcome};
 ghost use Rattle.node_sets.specs.Requirements.{Small};
 
 use crate::judge::judge_events;
-use monitor::lent::HeldTree;
+use held_pair::lent::HeldTree;
 use node_sets::counting::count_beneath;
 use refusals::refusal::Refusal;
 use tree_file::format::MAX_NODES;

@@ -2,10 +2,10 @@
 ghost use Rattle.std.specs.Prelude.{◌≡◌};
 ghost use Rattle.cut_sets.specs.Judged.{count_standing};
 
-use monitor::lent::HeldTree;
+use held_pair::lent::HeldTree;
 use refusals::refusal::Refusal;
 use refusals::rule::Rule;
-use tree_file::judgement::Counts;
+use tree_judging::judgement::Counts;
 
 // The most basic events: a set's number has a bit for each.
 const MOST_EVENTS: usize = 64;

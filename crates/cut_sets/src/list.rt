@@ -1,15 +1,15 @@
 // Listing the minimal cut sets of the held tree, each once and no other set, as 64-bit numbers.
 ghost use Rattle.std.specs.Prelude.{◌≡◌, length};
 ghost use Rattle.refusals.specs.FirstFault.{judged_by};
-ghost use Rattle.monitor.specs.Standing.{held_tree};
-ghost use Rattle.monitor.specs.Question.{root as root_of};
+ghost use Rattle.held_pair.specs.Standing.{held_tree};
+ghost use Rattle.tree_file.specs.NodeTable.{root as root_of};
 ghost use Rattle.cut_sets.specs.Judged.{list_outcome, reply_of, set_count, short_list};
 ghost use Rattle.cut_sets.specs.Listed.{SetsLeft};
 ghost use Rattle.node_sets.specs.Requirements.{Small};
 
 use crate::judge::judge_events;
-use monitor::lent::HeldTree;
-use monitor::state::Reply;
+use held_files::state::Reply;
+use held_pair::lent::HeldTree;
 use node_sets::counted::{CountedNode, CountedTree};
 use node_sets::counting::count_beneath;
 use refusals::refusal::Refusal;

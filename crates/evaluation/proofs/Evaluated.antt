@@ -14,13 +14,12 @@ use Rattle.tree_file.specs.declared.node.Node.{Node}
 use Rattle.tree_file.specs.declared.node.Node.TheVariants as node
 use Rattle.rounding.specs.Ends.{enclosure}
 use Rattle.rounding.specs.declared.end.Enclosure.{Enclosure}
-use Rattle.evaluation.specs.Slices.{Slices, ends, slice, stored_end, Long, after_turns, filled}
+use Rattle.work_slices.specs.Slices.{Slices, ends, slice, stored_end, Long, after_turns, filled}
 use Rattle.evaluation.specs.Phases.{event_put, event_turn, gate_enclosure, gate_turn}
 use Rattle.evaluation.specs.Requirements.{EventsStored}
-use Rattle.evaluation.proofs.Places.{At, SameAt, SameLength, same_long, same_slices, same_enclosure}
-use Rattle.evaluation.proofs.Places.{content_value, stored_at}
-use Rattle.evaluation.proofs.Places.{put_length, put_here, put_other}
-use Rattle.evaluation.proofs.Turns.{Local, turns_length, turns_past, turns_at, filled_local, filled_at}
+use Rattle.work_slices.proofs.Places.{At, SameAt, SameLength, same_long, same_slices, same_enclosure}
+use Rattle.work_slices.proofs.Places.{content_value, stored_at, put_length, put_here, put_other}
+use Rattle.work_slices.proofs.Turns.{Local, turns_length, turns_past, turns_at, filled_local, filled_at}
 use Rattle.evaluation.proofs.NodeEnds.{event_end, gate_end_by_inputs}
 use Rattle.evaluation.proofs.FoldBounds.{fold_at_most}
 use Rattle.evaluation.proofs.GatesDone.{Done, Carried, all_done, done_holds, gates_local, order_inside}

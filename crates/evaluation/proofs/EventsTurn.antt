@@ -8,16 +8,16 @@ use Rattle.tree_file.specs.declared.node.Node.TheVariants as node
 use Rattle.tree_file.proofs.Nodes.{event_inside}
 use Rattle.opinion_sheet.specs.Format.{event_count as entry_count}
 use Rattle.opinion_sheet.specs.WellFormed.{WellFormed as WellFormedSheet}
-use Rattle.opinion_sheet.specs.Judged.{counts_of, judged}
-use Rattle.opinion_sheet.proofs.Accepted.{accepted_well_formed}
+use Rattle.sheet_judging.specs.Judged.{counts_of, judged}
+use Rattle.sheet_judging.proofs.Accepted.{accepted_well_formed}
 use Rattle.std.specs.Prelude.{Ok}
 use Rattle.tree_file.specs.Tallies.{event_count}
 use Rattle.tree_file.specs.WellFormed.{WellFormed}
 use Rattle.rounding.specs.declared.end.Enclosure.{Enclosure}
-use Rattle.evaluation.specs.Slices.{Slices, Long}
+use Rattle.work_slices.specs.Slices.{Slices, Long}
 use Rattle.evaluation.specs.Phases.{event_turn}
-use Rattle.evaluation.proofs.Places.{same_long}
-use Rattle.evaluation.proofs.Turns.{Reached, reached_length}
+use Rattle.work_slices.proofs.Places.{same_long}
+use Rattle.work_slices.proofs.Turns.{Reached, reached_length}
 use Rattle.evaluation.proofs.Evaluated.{events_local}
 
 -- at a node's turn the slices have its place

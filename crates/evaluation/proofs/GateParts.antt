@@ -7,9 +7,9 @@ use Rattle.tree_file.specs.NodeTable.{read_node}
 use Rattle.tree_file.specs.declared.node.Gate.{Gate}
 use Rattle.tree_file.specs.declared.node.Node.TheVariants as node
 use Rattle.tree_file.proofs.Nodes.{inputs_least, link_inside, link_below, links_inside}
-use Rattle.evaluation.specs.Slices.{Slices}
+use Rattle.work_slices.specs.Slices.{Slices}
 use Rattle.evaluation.specs.Requirements.{GateStored, GateAsked}
-use Rattle.evaluation.proofs.Places.{same_long}
+use Rattle.work_slices.proofs.Places.{same_long}
 
 module _ {U : ℕ} {tree : List ℕ} {i : ℕ} {s : Slices} (asked : GateAsked U tree i s) {g : Gate}
     (e : node.Gate g ≡ read_node tree i) where

@@ -15,7 +15,7 @@ use Rattle.tree_file.specs.Format.{linked}
 use Rattle.rounding.specs.Ends.{enclosure, end_in, BothInUnits}
 use Rattle.rounding.specs.declared.end.Enclosure.{Enclosure}
 use Rattle.rounding.proofs.Marks.{end_in_enclosure, same_ends}
-use Rattle.evaluation.specs.Slices.{Slices, stored_end}
+use Rattle.work_slices.specs.Slices.{Slices, stored_end}
 use Rattle.evaluation.specs.Phases.{fold_end}
 use Rattle.evaluation.specs.Requirements.{InputStored}
 

@@ -14,10 +14,10 @@ use Rattle.tree_file.specs.declared.node.Gate.{Gate}
 use Rattle.tree_file.specs.declared.node.Node.{Node}
 use Rattle.tree_file.specs.declared.node.Node.TheVariants as node
 use Rattle.tree_file.proofs.Nodes.{link_below}
-use Rattle.evaluation.specs.Slices.{Slices, Long, put, after_turns}
+use Rattle.work_slices.specs.Slices.{Slices, Long, put, after_turns}
 use Rattle.evaluation.specs.Phases.{gate_enclosure, gate_put, gate_turn, in_order}
-use Rattle.evaluation.proofs.Places.{SameAt, SameLength, same_long, put_length, put_other}
-use Rattle.evaluation.proofs.Turns.{Local, turns_length}
+use Rattle.work_slices.proofs.Places.{SameAt, SameLength, same_long, put_length, put_other}
+use Rattle.work_slices.proofs.Turns.{Local, turns_length}
 
 -- Node m is done when the first p places of the order are: a basic event before any of them, a gate at its own.
 pub data Done (tree : List ℕ) (p m : ℕ) : Type 0 where

@@ -5,11 +5,11 @@ use mathlib.Core.List.{List}
 use native.Mathlib.Nat.{le_refl, le_of_lt}
 use Rattle.tree_file.specs.Format.{node_count}
 use Rattle.tree_file.specs.NodeTable.{read_node}
-use Rattle.evaluation.specs.Slices.{Slices}
+use Rattle.work_slices.specs.Slices.{Slices}
 use Rattle.evaluation.specs.Phases.{gate_put, gate_turn, in_order}
 use Rattle.evaluation.specs.Requirements.{EventsStored, GateAsked}
-use Rattle.evaluation.proofs.Places.{same_long}
-use Rattle.evaluation.proofs.Turns.{Reached, reached_next, turns_length}
+use Rattle.work_slices.proofs.Places.{same_long}
+use Rattle.work_slices.proofs.Turns.{Reached, reached_next, turns_length}
 use Rattle.evaluation.proofs.GatesDone.{gates_local, inputs_done, linked_inside, order_inside}
 use Rattle.evaluation.proofs.Evaluated.{in_units_done}
 

@@ -1,7 +1,5 @@
--- The laws of the evaluation, in the order of the argument: the places of the slices, a node's end by its inputs', the
+-- The laws of the evaluation, in the order of the argument: a node's end by its inputs', the
 -- two phases and what they come to, one turn of each loop, and demands 2 and 3 of every node.
-pub mod Places
-pub mod Turns
 pub mod NodeEnds
 pub mod FoldBounds
 pub mod GatesDone

@@ -17,8 +17,8 @@ use Rattle.tree_file.specs.Tallies.{event_count}
 use Rattle.tree_file.specs.NodeTable.{table_of, fault_tree, rank}
 use Rattle.tree_file.proofs.NodeTable.{table_ranked, table_numbered, table_linked_once, table_events}
 use Rattle.opinion_sheet.specs.Format.{unit}
-use Rattle.opinion_sheet.specs.EventCut.{event_cut}
-use Rattle.opinion_sheet.proofs.EventRising.{event_rising}
+use Rattle.event_cut.specs.EventCut.{event_cut}
+use Rattle.event_cut.proofs.EventRising.{event_rising}
 use Rattle.evaluation.specs.Report.{node_end}
 use Rattle.evaluation.specs.Requirements.{Pair}
 

@@ -6,15 +6,15 @@ use native.Mathlib.Nat.{le_refl}
 use Rattle.theory.specs.Unit.{billion}
 use Rattle.theory.specs.Rounding.{Direction, End, cut_end, end_of}
 use Rattle.tree_file.specs.Format.{node_count}
-use Rattle.opinion_sheet.specs.Cut.{IsLevel}
-use Rattle.opinion_sheet.specs.EventCut.{event_cut, cut_at}
+use Rattle.event_cut.specs.Level.{IsLevel}
+use Rattle.event_cut.specs.EventCut.{event_cut, cut_at}
 use Rattle.rounding.specs.declared.end.Enclosure.{Enclosure}
-use Rattle.evaluation.specs.Slices.{Slices, ends, Long, after_turns}
+use Rattle.work_slices.specs.Slices.{Slices, ends, Long, after_turns}
 use Rattle.evaluation.specs.Report.{node_end, node_enclosure, slices_after}
 use Rattle.evaluation.specs.Phases.{event_turn, gate_turn}
 use Rattle.evaluation.specs.Requirements.{Pair, Evaluable, EventsStored}
-use Rattle.evaluation.proofs.Places.{content_value, same_long}
-use Rattle.evaluation.proofs.Turns.{turns_length, filled_local}
+use Rattle.work_slices.proofs.Places.{content_value, same_long}
+use Rattle.work_slices.proofs.Turns.{turns_length, filled_local}
 use Rattle.evaluation.proofs.NodeEnds.{event_end}
 use Rattle.evaluation.proofs.Evaluated.{events_at, events_local, phases_report}
 use Rattle.evaluation.proofs.NodePromises.{node_in_units}

@@ -11,7 +11,7 @@ use Rattle.tree_file.specs.declared.node.Node.{Node}
 use Rattle.tree_file.specs.declared.node.Node.TheVariants as node
 use Rattle.rounding.specs.Ends.{enclosure}
 use Rattle.rounding.specs.declared.end.Enclosure.{Enclosure}
-use Rattle.evaluation.specs.Slices.{Slices, stored_end, put}
+use Rattle.work_slices.specs.Slices.{Slices, stored_end, put}
 
 -- The slices with the cut of a basic event at its node's place; a gate's place is left.
 abbrev pub event_put : (ℕ → Enclosure) → ℕ → Node → Slices → Slices

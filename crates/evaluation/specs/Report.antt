@@ -3,10 +3,10 @@ use Rattle.std.specs.Prelude.{ℕ, List}
 use Rattle.theory.specs.Rounding.{Direction, End, reported}
 use Rattle.tree_file.specs.Format.{node_count}
 use Rattle.tree_file.specs.NodeTable.{fault_tree}
-use Rattle.opinion_sheet.specs.EventCut.{event_cut}
+use Rattle.event_cut.specs.EventCut.{event_cut}
 use Rattle.rounding.specs.Ends.{enclosure}
 use Rattle.rounding.specs.declared.end.Enclosure.{Enclosure}
-use Rattle.evaluation.specs.Slices.{Slices, filled}
+use Rattle.work_slices.specs.Slices.{Slices, filled}
 
 -- The lower (down) or upper (up) end reported of node i at level k of n, in units of which U make 1.
 unfoldable pub node_end : ℕ → Direction → List ℕ → List ℕ → ℕ → ℕ → ℕ → End

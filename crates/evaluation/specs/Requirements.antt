@@ -10,8 +10,8 @@ use Rattle.tree_file.specs.declared.node.Gate.{Gate}
 use Rattle.tree_file.specs.declared.node.Node.TheVariants as node
 use Rattle.opinion_sheet.specs.Format.{event_count as entry_count}
 use Rattle.opinion_sheet.specs.WellFormed.{WellFormed as WellFormedSheet}
-use Rattle.opinion_sheet.specs.Cut.{IsLevel}
-use Rattle.evaluation.specs.Slices.{Slices, Long, ends, slice}
+use Rattle.event_cut.specs.Level.{IsLevel}
+use Rattle.work_slices.specs.Slices.{Slices, Long, ends, slice}
 
 -- A well-formed tree file and a well-formed sheet with as many events, and a level.
 pub record Pair (tree sheet : List ℕ) (k n : ℕ) : Type 0 where

@@ -1,14 +1,14 @@
 // A level in two phases: the events' cuts, then the gates.
 ghost use Rattle.std.specs.Prelude.{◌≡◌};
 ghost use Rattle.theory.specs.Unit.{billion};
-ghost use Rattle.evaluation.specs.Slices.{contents, SameSlices};
+ghost use Rattle.work_slices.specs.Slices.{contents, SameSlices};
 ghost use Rattle.evaluation.specs.Report.{slices_after};
 ghost use Rattle.evaluation.specs.Requirements.{Evaluable};
 
 use crate::events::EventCuts;
 use crate::gates::put_gates;
-use crate::slices::WorkSlices;
-use opinion_sheet::level::Level;
+use event_cut::level::Level;
+use work_slices::slices::WorkSlices;
 
 // The ends and marks of all nodes at a level, at place i for node i; places from N on are unchanged.
 pub fn evaluate(tree: &[u8], sheet: &[u8], level: Level, slices: &mut WorkSlices)

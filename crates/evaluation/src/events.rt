@@ -6,16 +6,16 @@ ghost use Rattle.tree_file.specs.NodeTable.{read_node};
 ghost use Rattle.tree_file.specs.Tallies.{event_count};
 ghost use Rattle.tree_file.specs.WellFormed.{WellFormed};
 ghost use Rattle.opinion_sheet.specs.Format.{event_count as entry_count};
-ghost use Rattle.opinion_sheet.specs.Judged.{counts_of, judged};
-ghost use Rattle.opinion_sheet.specs.EventCut.{cut_at};
-ghost use Rattle.evaluation.specs.Slices.{contents, SameSlices, Long, after_turns};
+ghost use Rattle.sheet_judging.specs.Judged.{counts_of, judged};
+ghost use Rattle.event_cut.specs.EventCut.{cut_at};
+ghost use Rattle.work_slices.specs.Slices.{contents, SameSlices, Long, after_turns};
 ghost use Rattle.evaluation.specs.Phases.{event_put, event_turn};
 
-use crate::slices::WorkSlices;
-use opinion_sheet::cut::cut_at;
-use opinion_sheet::level::Level;
+use event_cut::cut::cut_at;
+use event_cut::level::Level;
 use tree_file::format::node_count;
 use tree_file::node::{Node, node_at};
+use work_slices::slices::WorkSlices;
 
 // The cuts of a tree's basic events: those of a sheet with as many entries, at a level. A ghost field holds no
 // `WellFormed` sheet, which names a speaker, but that it is accepted, which says the same.

@@ -6,16 +6,16 @@ ghost use Rattle.theory.specs.GateFold.{both_seen};
 ghost use Rattle.tree_file.specs.Format.{linked};
 ghost use Rattle.tree_file.specs.NodeTable.{kind_as};
 ghost use Rattle.rounding.specs.Ends.{enclosure, end_in, BothInUnits};
-ghost use Rattle.evaluation.specs.Slices.{contents, stored_end};
+ghost use Rattle.work_slices.specs.Slices.{contents, stored_end};
 ghost use Rattle.evaluation.specs.Phases.{fold_end};
 ghost use Rattle.evaluation.specs.Requirements.{InputStored, InputsStored};
 
 use crate::seen::seen_ends;
-use crate::slices::WorkSlices;
 use rounding::direction::Direction;
 use rounding::end::Enclosure;
 use rounding::step::step;
 use tree_file::node::{GateKind, linked_node};
+use work_slices::slices::WorkSlices;
 
 // The running interval times a factor: the lower end is rounded down, the upper end up.
 fn step_ends(running: Enclosure, factor: Enclosure) -> Enclosure

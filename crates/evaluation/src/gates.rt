@@ -3,15 +3,15 @@ ghost use Rattle.std.specs.Prelude.{◌≡◌};
 ghost use Rattle.theory.specs.Unit.{billion};
 ghost use Rattle.tree_file.specs.Format.{node_count};
 ghost use Rattle.tree_file.specs.NodeTable.{read_node};
-ghost use Rattle.evaluation.specs.Slices.{contents, SameSlices, after_turns};
+ghost use Rattle.work_slices.specs.Slices.{contents, SameSlices, after_turns};
 ghost use Rattle.evaluation.specs.Phases.{gate_enclosure, gate_put, gate_turn, in_order};
 ghost use Rattle.evaluation.specs.Requirements.{EventsStored, GateAsked, GateStored};
 
 use crate::gate::gate_ends;
-use crate::slices::WorkSlices;
 use rounding::end::Enclosure;
 use tree_file::format::node_count;
 use tree_file::node::{Gate, Node, links_from, node_at};
+use work_slices::slices::WorkSlices;
 
 // Both ends of a gate: the fold gets the part of the tree that starts at the gate's first link.
 fn gate_enclosure(tree: &[u8], gate: Gate, slices: &WorkSlices) -> Enclosure

@@ -7,4 +7,3 @@ mod events;
 mod gate;
 mod gates;
 mod seen;
-pub mod slices;

@@ -1,17 +1,18 @@
 // What is printed for a pair, a book and an hour.
 use arrayvec::ArrayVec;
-use evaluation::slices::WorkSlices;
 use fields::fields::{field16_at, field32_at};
-use monitor::held::MOST_SHEET;
-use printer::print::{MOST_TEXT, print_levels};
-use program_text::held::{Held, LEVELS_HEAD, MOST_LEVELS_INPUT};
-use program_text::no_answer::NoAnswer;
-use program_text::read::{read_end, read_file, read_head, read_pair};
+use held_files::held::MOST_SHEET;
+use held_stores::held::{Held, LEVELS_HEAD, MOST_LEVELS_INPUT};
+use hour_sheet::hour::BookAtHour;
+use level_text::draft::MOST_TEXT;
+use printed::no_answer::NoAnswer;
+use printer::print::print_levels;
+use program_input::read::{read_end, read_file, read_head, read_pair};
 use refusals::refusal::Refusal;
 use std::io;
 use std::io::Write;
 use tree_file::format::MAX_NODES;
-use work_windows::hour::BookAtHour;
+use work_slices::slices::WorkSlices;
 use work_windows::question::question_at_hour;
 
 // Reads 16-bit n, tree length, sheet length and book length and a 32-bit hour, low byte first, then the tree, the

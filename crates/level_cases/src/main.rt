@@ -2,8 +2,9 @@
 // text that is printed for one. reference/src/framing.rs writes and reads the same.
 #![tactic(auto)]
 
-use printer::print::{MOST_TEXT, print_levels};
-use program_text::read::{WrongInput, read_file, read_head};
+use level_text::draft::MOST_TEXT;
+use printer::print::print_levels;
+use program_input::read::{WrongInput, read_file, read_head};
 use std::io;
 
 // Reads an input to the front of the room.
@@ -23,7 +24,7 @@ fn print_answer(rt: &impl Print, input: &[u8]) -> io::Result<()> {
 }
 
 // Answers each input up to the end of the stream, or to one that there is no room for. A proved loop has to end, so
-// there is a most number of inputs; vectors says why the loop is not shared.
+// there is a most number of inputs; stored_calls says why the loop is not shared.
 fn run(rt: &(impl Input + Print)) {
     let mut room = [0u8; 65536];
     for _ in 0..100000u32 {

@@ -2,9 +2,10 @@
 // it says so on standard error.
 #![tactic(auto)]
 
-use printer::print::{MOST_TEXT, print_levels};
-use program_text::held::MOST_LEVELS_INPUT;
-use program_text::read::read_full;
+use held_stores::held::MOST_LEVELS_INPUT;
+use level_text::draft::MOST_TEXT;
+use printer::print::print_levels;
+use program_input::read::read_full;
 
 // One byte more than the largest input, so that a longer one is seen.
 const ROOM: usize = MOST_LEVELS_INPUT + 1;

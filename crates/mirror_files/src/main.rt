@@ -3,17 +3,17 @@
 #![tactic(auto)]
 
 use fields::fields::field16_at;
-use mirror::mirror::mirror;
-use monitor::held::{MOST_SHEET, MOST_TREE};
-use program_text::held::Held;
-use program_text::no_answer::{NoAnswer, tell};
-use program_text::read::{read_end, read_head, read_pair};
+use held_files::held::{MOST_SHEET, MOST_TREE};
+use held_stores::held::Held;
+use printed::no_answer::{NoAnswer, tell};
+use program_input::read::{read_end, read_head, read_pair};
+use success_tree::write::write_success_tree;
 
 // Mirrors the held pair, and writes the tree file and then the sheet.
 fn write_mirror(rt: &impl Print, held: &Held) -> Result<(), NoAnswer> {
     let mut tree = [0; MOST_TREE];
     let mut sheet = [0; MOST_SHEET];
-    let reply = mirror(held.lent_pair(), &mut tree, &mut sheet);
+    let reply = write_success_tree(held.lent_pair(), &mut tree, &mut sheet);
     reply.outcome?;
     rt.write_all(&tree[..held.state.tree_len])?;
     rt.write_all(&sheet[..held.state.sheet_len])?;

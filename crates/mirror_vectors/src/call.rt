@@ -1,7 +1,7 @@
 // Reading a call: six numbers of 32 bits, low byte first; the bytes of both stores follow.
 use fields::fields::field32_at;
-use monitor::state::State;
-use program_text::read::read_head;
+use held_files::state::State;
+use program_input::read::read_head;
 
 // The lengths of the stores, the state, and the lengths of the buffers.
 #[derive(Clone, Copy)]

@@ -1,11 +1,11 @@
 // The list of calls, one after the other.
 use crate::call::{Call, read_call};
-use mirror::mirror::mirror;
-use monitor::lent::HeldPair;
-use program_text::no_answer::print_refusal;
-use program_text::read::read_full;
-use program_text::shown::write_after;
+use arrayvec::ArrayVec;
+use held_pair::lent::HeldPair;
 use std::io;
+use stored_calls::done::print_done;
+use stored_calls::lent::{filled, read_file};
+use success_tree::write::write_success_tree;
 
 // No list of calls has a longer store or buffer.
 const TREE_ROOM: usize = 8000;
@@ -15,32 +15,22 @@ const SHEET_ROOM: usize = 18000;
 // Reads the stores of a call, mirrors into buffers that are filled so that what a call leaves alone is seen, and
 // prints what there is after it.
 fn answer(rt: &(impl Input + Print), call: Call) -> io::Result<()> {
-    let mut tree = [0; TREE_ROOM];
-    let mut sheet = [0; SHEET_ROOM];
-    let tree = &mut tree[..call.tree_store.min(TREE_ROOM)];
-    let sheet = &mut sheet[..call.sheet_store.min(SHEET_ROOM)];
-    read_full(rt, tree);
-    read_full(rt, sheet);
-    let mut tree_buffer = [238; TREE_ROOM];
-    let mut sheet_buffer = [238; SHEET_ROOM];
-    let tree_buffer = &mut tree_buffer[..call.tree_buffer.min(TREE_ROOM)];
-    let sheet_buffer = &mut sheet_buffer[..call.sheet_buffer.min(SHEET_ROOM)];
+    let tree: ArrayVec<u8, TREE_ROOM> = read_file(rt, call.tree_store);
+    let sheet: ArrayVec<u8, SHEET_ROOM> = read_file(rt, call.sheet_store);
+    let mut tree_buffer: ArrayVec<u8, TREE_ROOM> = filled(238, call.tree_buffer);
+    let mut sheet_buffer: ArrayVec<u8, SHEET_ROOM> = filled(238, call.sheet_buffer);
     let held = HeldPair {
         state: call.state,
-        tree_store: tree,
-        sheet_store: sheet,
+        tree_store: &tree,
+        sheet_store: &sheet,
     };
-    let reply = mirror(held, tree_buffer, sheet_buffer);
-    match reply.outcome {
-        Ok(()) => println!(rt; "mirrored")?,
-        Err(refusal) => print_refusal(rt, refusal)?,
-    }
+    let reply = write_success_tree(held, &mut tree_buffer, &mut sheet_buffer);
     let mirrored = HeldPair {
         state: reply.state,
-        tree_store: tree_buffer,
-        sheet_store: sheet_buffer,
+        tree_store: &tree_buffer,
+        sheet_store: &sheet_buffer,
     };
-    write_after(rt, mirrored)
+    print_done(rt, reply.outcome, "mirrored", mirrored)
 }
 
 // A proved loop has to end, so there is a most number of calls. Each program with a list has such a loop: one for all

@@ -6,21 +6,22 @@ use native.Mathlib.Omega.{arith}
 use Rattle.theory.specs.Rounding.{Direction}
 use Rattle.tree_file.specs.Format.{node_count}
 use Rattle.tree_file.specs.Tallies.{event_count}
-use Rattle.tree_file.specs.Judged.{counts_of}
-use Rattle.tree_file.specs.declared.judgement.Counts.{Counts}
+use Rattle.tree_judging.specs.Judged.{counts_of}
+use Rattle.tree_judging.specs.declared.judgement.Counts.{Counts}
 use Rattle.rounding.specs.Ends.{enclosure}
 use Rattle.rounding.specs.declared.end.Enclosure.{Enclosure}
 use Rattle.rounding.proofs.Marks.{end_in_enclosure, same_ends}
 use Rattle.opinion_sheet.specs.Format.{unit}
-use Rattle.opinion_sheet.specs.Cut.{IsLevel}
-use Rattle.evaluation.specs.Slices.{Slices, Long, stored_end}
+use Rattle.event_cut.specs.Level.{IsLevel}
+use Rattle.work_slices.specs.Slices.{Slices, Long, stored_end}
 use Rattle.evaluation.specs.Report.{node_end, node_enclosure, slices_after}
 use Rattle.evaluation.specs.Requirements.{Evaluable, Pair}
-use Rattle.evaluation.proofs.Places.{same_long, stored_at}
+use Rattle.work_slices.proofs.Places.{same_long, stored_at}
 use Rattle.evaluation.proofs.Reporting.{left_long, pair_at}
-use Rattle.evaluation.proofs.Turns.{filled_at}
+use Rattle.work_slices.proofs.Turns.{filled_at}
 use Rattle.evaluation.proofs.NodePromises.{node_bottom_up, node_interval_ends, node_kept, node_encloses}
-use Rattle.monitor.specs.Question.{root, report_of}
+use Rattle.tree_file.specs.NodeTable.{root}
+use Rattle.monitor.specs.Question.{report_of}
 use Rattle.monitor.specs.Promise.{Kept}
 
 module _ (tree sheet : List ℕ) (k n : ℕ) (before : Slices) (asked : Evaluable tree sheet before) (level : IsLevel k n)

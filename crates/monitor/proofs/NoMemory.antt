@@ -6,12 +6,12 @@ use mathlib.Core.List.{List, [], ◌∷◌}
 use lib.ListN.{length}
 use lib.Dec.{leb, leb-zero, leb-suc-suc}
 use Rattle.refusals.specs.FirstFault.{FirstFault}
-use Rattle.tree_file.specs.Judged.{fault_of as tree_fault}
-use Rattle.opinion_sheet.specs.Judged.{fault_of as sheet_fault}
-use Rattle.evaluation.specs.Slices.{Slices}
-use Rattle.monitor.specs.Standing.{held, held_tree, held_sheet, changed, tree_changed, sheet_changed}
+use Rattle.tree_judging.specs.Judged.{fault_of as tree_fault}
+use Rattle.sheet_judging.specs.Judged.{fault_of as sheet_fault}
+use Rattle.work_slices.specs.Slices.{Slices}
+use Rattle.held_pair.specs.Standing.{held, held_tree, held_sheet, changed, tree_changed, sheet_changed}
 use Rattle.monitor.specs.Question.{outcome_of, reply_of, slices_left}
-use Rattle.monitor.specs.declared.state.State.{State}
+use Rattle.held_files.specs.declared.state.State.{State}
 
 -- Whether a length lies inside the store can be read from the bytes held.
 inside_held : (len : ℕ) (store : List ℕ) → leb len (length store) ≡ leb len (length (held len store))

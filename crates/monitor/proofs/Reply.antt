@@ -12,19 +12,19 @@ use Rattle.refusals.specs.FirstFault.{FirstFault}
 use Rattle.std.specs.Prelude.{Ok, Err}
 use Rattle.refusals.proofs.FirstFault.{first_of_append, unless_holds}
 use Rattle.tree_file.specs.Format.{node_count}
-use Rattle.tree_file.specs.declared.judgement.Counts.{Counts}
+use Rattle.tree_judging.specs.declared.judgement.Counts.{Counts}
 use Rattle.opinion_sheet.specs.Format.{unit}
-use Rattle.evaluation.specs.Slices.{Slices, Long}
+use Rattle.work_slices.specs.Slices.{Slices, Long}
 use Rattle.evaluation.specs.Report.{slices_after}
 use Rattle.evaluation.specs.Requirements.{Evaluable}
-use Rattle.monitor.specs.Standing.{held_tree, held_sheet, level_rules, short_slice, standing_of}
+use Rattle.held_pair.specs.Standing.{held_tree, held_sheet, level_rules, short_slice, standing_of}
 use Rattle.monitor.specs.Question.{report_of, question_rules, outcome_of, slices_left}
 use Rattle.monitor.specs.Promise.{PromisesKept}
-use Rattle.monitor.specs.declared.state.State.{State}
+use Rattle.held_files.specs.declared.state.State.{State}
 use Rattle.std.specs.Prelude.{Result}
 use Rattle.monitor.specs.declared.question.Report.{Report}
 use Rattle.refusals.proofs.FirstFault.{accepted_absent, refused_found}
-use Rattle.monitor.proofs.Ready.{ReadyPair, ready_pair}
+use Rattle.held_pair.proofs.Ready.{ReadyPair, ready_pair}
 use Rattle.monitor.proofs.Answer.{answer_kept}
 
 -- Slices that are not too short are long enough.

@@ -5,20 +5,19 @@ use mathlib.Core.List.{List, [], ◌∷◌}
 use lib.ListN.{length}
 use borrow.Author.Tests.{le-leb}
 use Rattle.theory.specs.Rounding.{Direction}
-use Rattle.refusals.specs.FirstFault.{◌or_else◌, first_of}
-use Rattle.refusals.specs.FirstFault.{FirstFault}
+use Rattle.refusals.specs.FirstFault.{◌or_else◌, first_of, FirstFault}
 use Rattle.std.specs.Prelude.{Ok}
 use Rattle.refusals.proofs.FirstFault.{first_of_append}
 use Rattle.tree_file.specs.Format.{node_count}
-use Rattle.tree_file.specs.declared.judgement.Counts.{Counts}
+use Rattle.tree_judging.specs.declared.judgement.Counts.{Counts}
 use Rattle.opinion_sheet.specs.Format.{unit}
-use Rattle.evaluation.specs.Slices.{Slices, Long, stored_end}
+use Rattle.work_slices.specs.Slices.{Slices, Long, stored_end}
 use Rattle.evaluation.specs.Report.{node_end, slices_after}
-use Rattle.monitor.specs.Standing.{held_tree, held_sheet, level_rules, short_slice, standing_of}
+use Rattle.held_pair.specs.Standing.{held_tree, held_sheet, level_rules, short_slice, standing_of}
 use Rattle.monitor.specs.Question.{question_rules, slices_by, slices_left}
-use Rattle.monitor.specs.declared.state.State.{State}
+use Rattle.held_files.specs.declared.state.State.{State}
 use Rattle.refusals.proofs.FirstFault.{accepted_absent}
-use Rattle.monitor.proofs.Ready.{ready_pair}
+use Rattle.held_pair.proofs.Ready.{ready_pair}
 use Rattle.monitor.proofs.Answer.{stored}
 
 module _ (state : State) (tree_store sheet_store : List ℕ) (k n : ℕ) (counts : Counts)

@@ -11,11 +11,11 @@ use Rattle.theory.specs.Rounding.{Direction, end_of}
 use Rattle.theory.specs.Promise.{Promised, exact_end, Probabilities, Choice}
 use Rattle.tree_file.specs.Format.{node_count}
 use Rattle.tree_file.specs.NodeTable.{fault_tree}
-use Rattle.opinion_sheet.specs.EventCut.{event_cut}
+use Rattle.event_cut.specs.EventCut.{event_cut}
 use Rattle.rounding.specs.Ends.{end_in}
-use Rattle.evaluation.specs.Slices.{Slices, stored_end}
+use Rattle.work_slices.specs.Slices.{Slices, stored_end}
 use Rattle.refusals.specs.declared.refusal.Refusal.{Refusal}
-use Rattle.monitor.specs.Question.{root}
+use Rattle.tree_file.specs.NodeTable.{root}
 use Rattle.monitor.specs.declared.question.Report.{Report}
 
 -- 2 × E − 1, by how many units an end may be off for E basic events: an accepted tree has at least one, so that the

@@ -1,21 +1,18 @@
 -- What a question answers and what it leaves in the work slices, by the level asked, the slices lent for it and the two
 -- files held. `question` answers `reply_of` and leaves `slices_left`.
-use Rattle.std.specs.Prelude.{ℕ, ◌-◌, List, [], ◌∷◌, ◌++◌, Result, Ok, Err}
+use Rattle.std.specs.Prelude.{ℕ, List, [], ◌∷◌, ◌++◌, Result, Ok, Err}
 use Rattle.refusals.specs.FirstFault.{FirstFault, first_of, judged_by}
 use Rattle.refusals.specs.declared.refusal.Refusal.{Refusal}
 use Rattle.tree_file.specs.Format.{node_count}
+use Rattle.tree_file.specs.NodeTable.{root}
 use Rattle.tree_file.specs.Tallies.{event_count}
 use Rattle.opinion_sheet.specs.Format.{unit}
-use Rattle.evaluation.specs.Slices.{Slices}
+use Rattle.work_slices.specs.Slices.{Slices}
 use Rattle.evaluation.specs.Report.{node_enclosure, slices_after}
-use Rattle.monitor.specs.Standing.{held_tree, held_sheet, level_rules, short_slice}
-use Rattle.monitor.specs.declared.state.State.{State}
+use Rattle.held_pair.specs.Standing.{held_tree, held_sheet, level_rules, short_slice}
+use Rattle.held_files.specs.declared.state.State.{State}
 use Rattle.monitor.specs.declared.question.Report.{Report}
-use Rattle.monitor.specs.declared.state.Reply.{Reply}
-
--- The root is the last node, N − 1: an accepted tree has N at least 1, so the subtraction never stops at 0.
-abbrev pub root : List ℕ → ℕ
-root tree = node_count tree - 1
+use Rattle.held_files.specs.declared.state.Reply.{Reply}
 
 -- The answer repeats the root's ends and marks and gives E.
 unfoldable pub report_of : ℕ → List ℕ → List ℕ → ℕ → ℕ → Report

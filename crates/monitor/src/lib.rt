@@ -1,9 +1,4 @@
-// The monitor: what it holds, and the calls on it.
+// The monitor: a level put to what is held. The main contract is that of `question::question`.
 #![tactic(auto)]
 
-pub mod hand_in;
-pub mod held;
-pub mod judge;
-pub mod lent;
 pub mod question;
-pub mod state;

@@ -1,11 +1,11 @@
 -- A question leaves the lent slices as long as they were.
 use Rattle.std.proofs.Common.{ℕ, List, refl, arith}
 use Rattle.std.specs.Prelude.{Ok, Err}
-use Rattle.evaluation.specs.Slices.{Slices, Long}
-use Rattle.evaluation.proofs.Places.{SameLength, same_long}
-use Rattle.evaluation.proofs.Turns.{turns_length, filled_local}
+use Rattle.work_slices.specs.Slices.{Slices, Long}
+use Rattle.work_slices.proofs.Places.{SameLength, same_long}
+use Rattle.work_slices.proofs.Turns.{turns_length, filled_local}
 use Rattle.monitor.specs.Question.{slices_by, slices_left}
-use Rattle.monitor.specs.declared.state.State.{State}
+use Rattle.held_files.specs.declared.state.State.{State}
 
 -- whether the question is answered or refused
 by_fault : (fault : _) {before after : Slices} → SameLength after before → SameLength (slices_by fault before after) before

@@ -3,13 +3,14 @@
 // error.
 #![tactic(auto)]
 
-use evaluation::slices::WorkSlices;
 use fields::fields::field16_at;
-use program_text::held::Held;
-use program_text::no_answer::{NoAnswer, tell};
-use program_text::read::{read_end, read_head, read_pair};
-use program_text::shown::Shown;
+use held_stores::held::Held;
+use monitor::question::question;
+use printed::no_answer::{NoAnswer, tell};
+use printed::shown::Shown;
+use program_input::read::{read_end, read_head, read_pair};
 use tree_file::format::MAX_NODES;
+use work_slices::slices::WorkSlices;
 
 // Questions level k of n, and prints a header, and a line for each node: its number, its lower end and its upper end.
 // k and n stand apart, since the input may have any two, which the question then refuses.
@@ -21,7 +22,7 @@ fn print_nodes(rt: &impl Print, held: &Held, k: u32, n: u32) -> Result<(), NoAns
         upper: &mut [0; MAX_NODES],
         marks: &mut [0; MAX_NODES],
     };
-    let reply = held.lent_pair().question(k, n, &mut slices);
+    let reply = question(held.lent_pair(), k, n, &mut slices);
     reply.outcome?;
     println!(rt;
         "tree {} events {} nodes {} level {k} of {n}",

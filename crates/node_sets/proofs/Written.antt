@@ -1,8 +1,7 @@
 -- Sets at the front of a slice: a single one, and those of a gate with one input more, for an OR behind the others, and
 -- for an AND joined to each of them.
 use Rattle.std.proofs.Common.{ℕ, ◌+◌, ◌-◌, ◌*◌, ◌/◌, ◌%◌, ◌≤◌, ◌<◌, ◌≡◌, sym, ap, ◌∙◌, ◌||◌, List, [], ◌∷◌}
-use Rattle.std.proofs.Common.{◌++◌, length, get_or, set, length-take, rules, arith, get_or-set_other}
-use Rattle.std.proofs.Common.{get_or-set_same}
+use Rattle.std.proofs.Common.{◌++◌, length, get_or, set, length-take, rules, arith, get_or-set_other, get_or-set_same}
 use Rattle.std.proofs.Math.Bool.{or_comm}
 use lib.ListN.{length-drop}
 use native.Mathlib.Decide.{dec_lt}

@@ -1,12 +1,12 @@
 -- The rules of document 01's section "The opinion sheet" and of document 02's request 2, each by itself and in no
--- order. `judged` accepts exactly the well-formed files (`accepted_well_formed` and `well_formed_accepted` of
--- proofs/Accepted).
+-- order. `judged` of sheet_judging accepts exactly the well-formed files (`accepted_well_formed` and
+-- `well_formed_accepted` of its proofs/Accepted).
 use Rattle.std.specs.Prelude.{ℕ, ◌≤◌, ◌<◌, ◌≡◌, true, List, length}
 use Rattle.opinion_sheet.specs.Format.{has_letters, version, version_read, event_count, max_events, expert_count}
 use Rattle.opinion_sheet.specs.Format.{expert_places, required_length, score, max_score, entry_at, kind}
 use Rattle.opinion_sheet.specs.Format.{numbers_kind, opinions_kind, fractions_kind, terms_at, term, max_term}
 use Rattle.opinion_sheet.specs.Format.{max_denominator, unit}
-use Rattle.opinion_sheet.specs.EntryRules.{numbers_of, fractions_of, last_byte}
+use Rattle.opinion_sheet.specs.Entries.{numbers_of, fractions_of, last_byte}
 use Rattle.opinion_sheet.specs.declared.numbers.Numbers.{Numbers}
 use Rattle.opinion_sheet.specs.declared.fractions.Fractions.{Fractions}
 

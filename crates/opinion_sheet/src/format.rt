@@ -45,8 +45,8 @@ pub fn has_letters(file: &[u8]) -> bool
     file.starts_with(b"FTS")
 }
 
-// Seven functions ask for a header, two here and those of scores.rt and opinions.rt: a type for it would be made at each
-// call, and is no shorter.
+// Seven functions ask for a header, two here and those of scores.rt and opinions.rt: a type for it would be made at
+// each call, and is no shorter.
 
 // E, the number of basic events: no `u16`, as fields reads it, since it is a count where it is used.
 pub fn event_count(file: &[u8]) -> usize

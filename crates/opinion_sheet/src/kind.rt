@@ -1,6 +1,6 @@
 // The kinds of an entry.
 ghost use Rattle.std.specs.Prelude.{◌≡◌};
-ghost use Rattle.opinion_sheet.specs.EntryRules.{kind_of};
+ghost use Rattle.opinion_sheet.specs.Entries.{kind_of};
 
 use refusals::rule::Rule;
 

@@ -1,13 +1,9 @@
-// Four numbers, and the entry that gives them in units: refusal 10.
+// Four numbers, and the entry that gives them in units.
 ghost use Rattle.std.specs.Prelude.{◌≡◌};
-ghost use Rattle.theory.specs.Unit.{billion};
-ghost use Rattle.opinion_sheet.specs.EntryRules.{numbers_of, numbers_rule, numbers_fault};
+ghost use Rattle.opinion_sheet.specs.Entries.{numbers_of};
 
 use crate::place::EntryPlace;
 use fields::fields::field32_at;
-use refusals::refusal::Refusal;
-use refusals::rule::Rule;
-use rounding::unit::UNIT;
 
 // Four numbers: of a number entry in units, of fractions over their denominator, of opinions in hundredths.
 #[derive(Clone, Copy, Default)]
@@ -32,15 +28,6 @@ impl From<Numbers<u32>> for Numbers<u64> {
     }
 }
 
-impl Numbers<u64> {
-    // Whether the numbers rise, to a number at most.
-    pub(crate) fn rise_to(self, most: u64) -> bool
-        ensures { result ≡ numbers_rule most self }
-    {
-        (self.a <= self.b) & (self.b <= self.c) & (self.c <= self.d) & (self.d <= most)
-    }
-}
-
 impl EntryPlace<'_> {
     // The four numbers of the number entry there.
     pub fn read_numbers(self) -> Numbers<u32>
@@ -51,15 +38,5 @@ impl EntryPlace<'_> {
         let c = field32_at(self.file, self.at + 9);
         let d = field32_at(self.file, self.at + 13);
         Numbers { a, b, c, d }
-    }
-
-    // The fault of the number entry there.
-    pub fn judge_numbers(self) -> Result<(), Refusal>
-        ensures { result ≡ numbers_fault billion self.entry.file.now self.entry.at }
-    {
-        if Numbers::from(self.read_numbers()).rise_to(UNIT) {
-            return Ok(());
-        }
-        Err(Rule::NumberOrder.at(self.at))
     }
 }

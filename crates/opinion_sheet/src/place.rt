@@ -1,8 +1,8 @@
-// The place of an entry, whose readers and judges stand with what they read.
+// The place of an entry, whose readers stand with what they read.
 ghost use Rattle.std.specs.Prelude.{◌≡◌, ◌+◌, ◌≤◌, length};
 ghost use Rattle.fields.specs.Fields.{byte};
 ghost use Rattle.opinion_sheet.specs.Format.{entry_at, entry_length};
-ghost use Rattle.opinion_sheet.specs.EntryRules.{kind_of};
+ghost use Rattle.opinion_sheet.specs.Entries.{kind_of};
 
 use crate::format::{ENTRY_LENGTH, HEADER_LENGTH};
 use crate::kind::EntryKind;
@@ -18,7 +18,8 @@ pub struct EntryPlace<'a> {
 }
 
 impl EntryPlace<'_> {
-    // The place of the entry of an event. Whoever reads or judges one has a file and an event, and makes the place here.
+    // The place of the entry of an event. Whoever reads or judges one has a file and an event, and makes the place
+    // here.
     pub fn of_event(file: &[u8], event: usize) -> EntryPlace<'_>
         requires { entry_at file.now event + entry_length file.now ≤ length file.now }
         ensures same_file { result.file.now ≡ file.now }

@@ -12,13 +12,13 @@ use Rattle.refusals.specs.declared.rule.Rule.TheVariants.{ShortSlice}
 use Rattle.std.specs.Prelude.{Ok}
 use Rattle.refusals.proofs.FirstFault.{accepted_absent, first_of_append}
 use Rattle.tree_file.specs.Format.{max_nodes, node_count}
-use Rattle.tree_file.specs.Judged.{counts_of}
-use Rattle.evaluation.specs.Slices.{slices}
-use Rattle.monitor.specs.Standing.{held_tree, held_sheet, level_rules, short_slice, standing_of}
+use Rattle.tree_judging.specs.Judged.{counts_of}
+use Rattle.work_slices.specs.Slices.{slices}
+use Rattle.held_pair.specs.Standing.{held_tree, held_sheet, level_rules, short_slice, standing_of}
 use Rattle.monitor.specs.Question.{outcome_of, report_of}
-use Rattle.monitor.specs.declared.state.State.{State}
+use Rattle.held_files.specs.declared.state.State.{State}
 use Rattle.monitor.specs.declared.question.Report.{Report}
-use Rattle.monitor.proofs.Ready.{ready_pair, ready_at}
+use Rattle.held_pair.proofs.Ready.{ready_pair, ready_at}
 use Rattle.printer.specs.Held.{ReadyAt}
 
 -- the work slices as they are lent

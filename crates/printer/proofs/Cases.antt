@@ -5,20 +5,20 @@ use Rattle.theory.specs.Rounding.{rounded, nothing_dropped, cut_end}
 use Rattle.theory.specs.Trapezoid.{cut}
 use Rattle.fields.specs.Fields.{field16, field32}
 use Rattle.refusals.specs.FirstFault.{first_among}
-use Rattle.tree_file.specs.HeaderRules.{header_fault as tree_header_fault}
+use Rattle.tree_judging.specs.HeaderRules.{header_fault as tree_header_fault}
 use Rattle.tree_file.specs.Tallies.{input_count, events_before, inputs_before}
-use Rattle.tree_file.specs.RecordRules.{has_fields, record_fault, sum_fault}
-use Rattle.tree_file.specs.LinkRules.{named, link_fault}
-use Rattle.tree_file.specs.Judged.{fault_of as tree_fault}
+use Rattle.tree_judging.specs.RecordRules.{has_fields, record_fault, sum_fault}
+use Rattle.tree_judging.specs.LinkRules.{named, link_fault}
+use Rattle.tree_judging.specs.Judged.{fault_of as tree_fault}
 use Rattle.tree_file.specs.NodeTable.{read_node}
-use Rattle.opinion_sheet.specs.HeaderRules.{header_fault as sheet_header_fault}
-use Rattle.opinion_sheet.specs.TermRules.{spoke_among}
-use Rattle.opinion_sheet.specs.Judged.{fault_of as sheet_fault}
+use Rattle.sheet_judging.specs.HeaderRules.{header_fault as sheet_header_fault}
+use Rattle.sheet_judging.specs.TermRules.{spoke_among}
+use Rattle.sheet_judging.specs.Judged.{fault_of as sheet_fault}
 use Rattle.evaluation.specs.Report.{node_end}
-use Rattle.monitor.specs.Standing.{changed}
+use Rattle.held_pair.specs.Standing.{changed}
 use Rattle.monitor.specs.Question.{report_of}
-use Rattle.printer.specs.Decimal.{decimal}
-use Rattle.printer.specs.Input.{well_framed}
+use Rattle.level_text.specs.Decimal.{decimal}
+use Rattle.level_input.specs.Input.{well_framed}
 use Rattle.printer.specs.Text.{text_of, whole_text}
 
 -- That many bytes of 0.

@@ -10,16 +10,16 @@ use Rattle.std.specs.Prelude.{Result, Ok, Err}
 use Rattle.refusals.specs.FirstFault.{FirstFault, first_of}
 use Rattle.refusals.proofs.FirstFault.{accepted_absent, refused_found}
 use Rattle.refusals.specs.declared.refusal.Refusal.{Refusal}
-use Rattle.tree_file.specs.Judged.{fault_of as tree_fault, counts_of}
-use Rattle.tree_file.specs.declared.judgement.Counts.{Counts}
-use Rattle.opinion_sheet.specs.Judged.{fault_of as sheet_fault}
-use Rattle.monitor.specs.HandIn.{hand_in_fault, answer_by, store_by, handed_answer, handed_store, holding_tree}
-use Rattle.monitor.specs.HandIn.{holding_sheet, tree_answer, tree_store, sheet_answer, sheet_store, nothing_held}
-use Rattle.monitor.specs.Standing.{changed, held_tree, held_sheet, level_fault, no_tree, no_sheet, other_tree}
-use Rattle.monitor.specs.Standing.{level_rules, standing_of}
-use Rattle.monitor.specs.declared.state.State.{State}
-use Rattle.monitor.specs.declared.state.Reply.{Reply}
-use Rattle.printer.specs.Line.{header_line}
+use Rattle.tree_judging.specs.Judged.{fault_of as tree_fault, counts_of}
+use Rattle.tree_judging.specs.declared.judgement.Counts.{Counts}
+use Rattle.sheet_judging.specs.Judged.{fault_of as sheet_fault}
+use Rattle.held_files.specs.HandIn.{hand_in_fault, answer_by, store_by, handed_answer, handed_store, holding_tree}
+use Rattle.held_files.specs.HandIn.{holding_sheet, tree_answer, tree_store, sheet_answer, sheet_store, nothing_held}
+use Rattle.held_pair.specs.Standing.{changed, held_tree, held_sheet, level_fault, no_tree, no_sheet, other_tree}
+use Rattle.held_pair.specs.Standing.{level_rules, standing_of}
+use Rattle.held_files.specs.declared.state.State.{State}
+use Rattle.held_files.specs.declared.state.Reply.{Reply}
+use Rattle.level_text.specs.Line.{header_line}
 use Rattle.printer.specs.Text.{first_refusal, holding, lines_below, levels_text}
 use Rattle.printer.specs.Held.{ReadyAt}
 

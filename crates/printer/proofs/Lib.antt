@@ -1,8 +1,5 @@
--- What the printer's proofs share, in the order of the argument: a number's digits; that they mean the number; a
--- level's answer, and the loop over the levels; the files that are held and handed in; the length of a front, for
+-- A level's answer, and the loop over the levels; the files that are held and handed in; the length of a front, for
 -- callers. Cases are computed by the prover.
-mod Digits
-mod Decimals
 mod Answers
 mod Lines
 mod Holding

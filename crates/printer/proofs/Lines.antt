@@ -4,14 +4,14 @@ use native.Mathlib.Omega.{arith}
 use mathlib.Core.Path.{◌≡◌, sym, ap, ◌∙◌}
 use mathlib.Core.List.{List, ◌++◌, append_assoc, append-nil}
 use Rattle.theory.specs.Unit.{billion}
-use Rattle.tree_file.specs.Judged.{counts_of}
-use Rattle.opinion_sheet.specs.Cut.{IsLevel}
-use Rattle.monitor.specs.Standing.{held_tree}
+use Rattle.tree_judging.specs.Judged.{counts_of}
+use Rattle.event_cut.specs.Level.{IsLevel}
+use Rattle.held_pair.specs.Standing.{held_tree}
 use Rattle.monitor.specs.Question.{report_of}
-use Rattle.monitor.specs.declared.state.State.{State}
+use Rattle.held_files.specs.declared.state.State.{State}
 use Rattle.monitor.specs.declared.question.Report.{Report}
-use Rattle.monitor.proofs.Ready.{ready_pair}
-use Rattle.printer.specs.Line.{level_line}
+use Rattle.held_pair.proofs.Ready.{ready_pair}
+use Rattle.level_text.specs.Line.{level_line}
 use Rattle.printer.specs.Text.{lines_below}
 use Rattle.printer.specs.Held.{ReadyAt}
 

@@ -1,16 +1,16 @@
 -- The whole printed text, by the bytes of the input: document 01's "The level printer reads standard input".
-use Rattle.std.specs.Prelude.{ℕ, zero, suc, ◌+◌, ◌*◌, cond, List, [], ◌∷◌, ◌++◌, length, Ok, Err}
+use Rattle.std.specs.Prelude.{ℕ, zero, suc, cond, List, [], ◌∷◌, ◌++◌, length, Ok, Err}
 use Rattle.theory.specs.Unit.{billion}
 use Rattle.refusals.specs.FirstFault.{FirstFault, first_of}
 use Rattle.tree_file.specs.Format.{tree_number}
 use Rattle.tree_file.specs.Tallies.{event_count}
-use Rattle.tree_file.specs.Judged.{fault_of as tree_fault}
-use Rattle.opinion_sheet.specs.Judged.{fault_of as sheet_fault}
-use Rattle.monitor.specs.Standing.{level_rules}
+use Rattle.tree_judging.specs.Judged.{fault_of as tree_fault}
+use Rattle.sheet_judging.specs.Judged.{fault_of as sheet_fault}
+use Rattle.held_pair.specs.Standing.{level_rules}
 use Rattle.monitor.specs.Question.{report_of}
-use Rattle.monitor.specs.declared.state.State.{State}
-use Rattle.printer.specs.Line.{input_line, refusal_line, header_line, most_header, level_line, most_line}
-use Rattle.printer.specs.Input.{well_framed, level_count, tree_bytes, sheet_bytes}
+use Rattle.held_files.specs.declared.state.State.{State}
+use Rattle.level_text.specs.Line.{input_line, refusal_line, header_line, level_line}
+use Rattle.level_input.specs.Input.{well_framed, level_count, tree_bytes, sheet_bytes}
 
 -- The lines of the levels below a count, the highest first.
 abbrev pub lines_below : List ℕ → List ℕ → ℕ → ℕ → List ℕ
@@ -40,14 +40,6 @@ text_by (Ok tt) text = text
 -- What is printed for a tree, a sheet and n.
 unfoldable pub text_of : List ℕ → List ℕ → ℕ → List ℕ
 text_of tree sheet n = text_by (first_refusal tree sheet n) (levels_text tree sheet n)
-
--- No pair has more levels: k is 0 to n, and n at most 1,000.
-abbrev pub most_levels : ℕ
-most_levels = 1001
-
--- No text is longer: 37,119 bytes.
-abbrev pub most_text : ℕ
-most_text = most_header + most_line * most_levels
 
 -- What is printed for an input, of whatever content and length.
 unfoldable pub whole_text : List ℕ → List ℕ

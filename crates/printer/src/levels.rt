@@ -2,18 +2,18 @@
 ghost use Rattle.std.specs.Prelude.{◌≡◌, OnOk};
 ghost use Rattle.theory.specs.Unit.{billion};
 ghost use Rattle.refusals.specs.FirstFault.{first_of};
-ghost use Rattle.monitor.specs.Standing.{held_tree, held_sheet, level_rules};
+ghost use Rattle.held_pair.specs.Standing.{held_tree, held_sheet, level_rules};
 ghost use Rattle.monitor.specs.Question.{report_of};
 ghost use Rattle.printer.specs.Text.{levels_text};
 ghost use Rattle.printer.specs.Held.{ReadyAt};
 
-use crate::draft::Draft;
-use evaluation::slices::WorkSlices;
-use monitor::lent::HeldPair;
-use monitor::question::Report;
-use opinion_sheet::level::Level;
+use event_cut::level::Level;
+use held_pair::lent::HeldPair;
+use level_text::draft::Draft;
+use monitor::question::{Report, question};
 use refusals::refusal::Refusal;
 use tree_file::format::MAX_NODES;
+use work_slices::slices::WorkSlices;
 
 // What the monitor reports at a level of a pair that is ready at the highest, and so at every level below.
 #[tactic(auto, using(crate::proofs::Answers::answered))]
@@ -31,7 +31,7 @@ fn report_at(held: HeldPair, level: Level) -> Report
         upper: &mut upper,
         marks: &mut marks,
     };
-    let reply = held.question(level.k, level.n, &mut slices);
+    let reply = question(held, level.k, level.n, &mut slices);
     reply.outcome.unwrap()
 }
 

@@ -1,8 +1,6 @@
-// The level printer: the whole printed text for an input, in a lent buffer.
+// The level printer: the whole printed text for an input, in a lent buffer. The main contract is that of
+// `print::print_levels`.
 #![tactic(auto)]
 
-mod draft;
-mod input;
 mod levels;
-mod line;
 pub mod print;

@@ -1,19 +1,17 @@
 // The whole printed text for an input.
 ghost use Rattle.std.specs.Prelude.{◌≡◌, ◌≤◌, OnOk};
-ghost use Rattle.printer.specs.Text.{first_refusal, levels_text, most_text, text_of, whole_text};
+ghost use Rattle.printer.specs.Text.{first_refusal, levels_text, text_of, whole_text};
+ghost use Rattle.level_text.specs.Room.{most_text};
 ghost use Rattle.printer.specs.Printed.{answer_of, buffer_after, text_length};
 
-use crate::draft::Draft;
-use crate::input::{Files, files_of};
 use crate::levels::put_levels;
-use monitor::hand_in::hand_in;
-use monitor::held::{MOST_SHEET, MOST_TREE, Sheet, Tree};
-use monitor::lent::HeldPair;
-use monitor::state::State;
+use held_files::hand_in::hand_in;
+use held_files::held::{MOST_SHEET, MOST_TREE, Sheet, Tree};
+use held_files::state::State;
+use held_pair::lent::HeldPair;
+use level_input::input::{Files, files_of};
+use level_text::draft::Draft;
 use refusals::refusal::Refusal;
-
-// No text is longer, so that a buffer of this length is never too short.
-pub const MOST_TEXT: usize = 37119;
 
 // A buffer is shorter than the text, whose length this says.
 #[derive(Clone, Copy)]
@@ -21,7 +19,7 @@ pub struct TooShort {
     pub length: usize,
 }
 
-// Hands in the tree, then the sheet, and puts their levels, or answers the first refusal. program_text's `Held::pair`
+// Hands in the tree, then the sheet, and puts their levels, or answers the first refusal. held_stores' `Held::pair`
 // hands in both too: one for the two would bring stores into the monitor, which holds none.
 fn hand_in_both(files: Files, draft: &mut Draft) -> Result<(), Refusal>
     ensures refusal { result ≡ first_refusal files.entry.tree.now files.entry.sheet.now files.entry.n }

@@ -26,9 +26,9 @@ tree_turns =
     ∷ refusal rule.UnknownKind 14
     ∷ refusal rule.WrongField 19
     ∷ refusal rule.WrongField 24
-    ∷ refusal rule.NotBelow 24
+    ∷ refusal rule.WrongLink 24
     ∷ refusal rule.LinkedBefore 24
-    ∷ refusal rule.NotBelow 26
+    ∷ refusal rule.WrongLink 26
     ∷ refusal rule.LinkedBefore 26
     ∷ refusal rule.ShortStore 0
     ∷ []

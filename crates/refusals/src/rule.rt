@@ -22,8 +22,8 @@ pub enum Rule {
     UnknownKind = 6,
     // A record's fields, the sum of all inputs, or a score.
     WrongField = 7,
-    // A link to a node that is not below its gate.
-    NotBelow = 8,
+    // A link to a node that its gate may not have for an input: one that is not below it.
+    WrongLink = 8,
     // A link to a node that an earlier link names.
     LinkedBefore = 9,
     // Four numbers that fall or exceed the unit.

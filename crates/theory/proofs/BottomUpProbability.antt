@@ -4,8 +4,7 @@ use mathlib.Core.List.{List, [], ◌∷◌, map}
 use native.Mathlib.Nat.{le_refl, mul-le-mul, mul-pos, sub-le}
 use lib.Dec.{lit<}
 use Rattle.theory.specs.Fraction.{Fraction, Probability, one, ◌⊗◌, complement, product}
-use Rattle.theory.specs.FaultTree.{GateKind, all, any, Tree, Inputs, basic, gate, only, more, events, all_events}
-use Rattle.theory.specs.FaultTree.{Each}
+use Rattle.theory.specs.FaultTree.{GateKind, all, any, Tree, Inputs, basic, gate, only, more, events, all_events, Each}
 use Rattle.theory.specs.BottomUp.{joined, bottom_up, all_bottom_up}
 use Rattle.theory.proofs.Each.{All, all_map, each_left, each_right}
 

@@ -6,8 +6,7 @@ use mathlib.Core.Bool.{Bool, true, false, cond}
 use mathlib.Core.List.{List, [], ◌∷◌, map}
 use borrow.Author.Tests.{le-leb}
 use Rattle.theory.specs.Fraction.{Fraction, ◌≼◌, at_most, one, ◌⊗◌, complement, product}
-use Rattle.theory.specs.FaultTree.{GateKind, all, any, Tree, Inputs, basic, gate, only, more, events, all_events}
-use Rattle.theory.specs.FaultTree.{Each}
+use Rattle.theory.specs.FaultTree.{GateKind, all, any, Tree, Inputs, basic, gate, only, more, events, all_events, Each}
 use Rattle.theory.specs.BottomUp.{joined, bottom_up, all_bottom_up}
 use Rattle.theory.specs.Interval.{Interval, Ordered, lesser, greater, times, minus, interval_one}
 use Rattle.theory.specs.Interval.{interval_product, interval_joined, interval_bottom_up, all_intervals}

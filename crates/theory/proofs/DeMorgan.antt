@@ -6,8 +6,7 @@ use native.Mathlib.Omega.{arith}
 use mathlib.Core.Path.{◌≡◌, refl, ap, ap₂, sym, ◌∙◌}
 use mathlib.Core.List.{List, [], ◌∷◌, map}
 use Rattle.theory.specs.Fraction.{Fraction, Probability, complement}
-use Rattle.theory.specs.FaultTree.{GateKind, all, any, Tree, Inputs, basic, gate, only, more, events, all_events}
-use Rattle.theory.specs.FaultTree.{Each}
+use Rattle.theory.specs.FaultTree.{GateKind, all, any, Tree, Inputs, basic, gate, only, more, events, all_events, Each}
 use Rattle.theory.specs.Interval.{Interval, Ordered}
 use Rattle.theory.specs.Trapezoid.{Trapezoid, Rising, cut}
 use Rattle.theory.specs.Rounding.{Direction, down, up, opposite, End, start, end_complement, step, cut_end, run}

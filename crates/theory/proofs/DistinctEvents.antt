@@ -15,8 +15,7 @@ use Rattle.theory.specs.NodeTable.{HasLink, Owns, Numbered, Ranked, LinkedOnce, 
 use Rattle.theory.proofs.Missing.{eqb_same}
 use Rattle.theory.proofs.Sums.{summed, summed_append, summed_ones, sum, sum_ones, sum_zeros, sum_one_term}
 use Rattle.theory.proofs.Sums.{term_at_most_sum}
-use Rattle.theory.proofs.LinkedSums.{Linked, NotLinked, linked_or_not, not_linked, not_linked_elsewhere}
-use Rattle.theory.proofs.LinkedSums.{not_linked_at}
+use Rattle.theory.proofs.LinkedSums.{Linked, NotLinked, linked_or_not, not_linked, not_linked_elsewhere, not_linked_at}
 use Rattle.theory.proofs.Distinct.{Distinct, is, multiplicity, at_most_once_distinct, contained_counted}
 use Rattle.theory.proofs.Distinct.{counted_contained, distinct_each_once}
 use Rattle.theory.proofs.Each.{each_of_contained}

@@ -11,8 +11,7 @@ use Rattle.theory.specs.Fraction.{Fraction}
 use Rattle.theory.specs.FaultTree.{contains, Each}
 use Rattle.theory.proofs.Missing.{false_of_not, or_lacks, eqb_same, eqb_comm}
 use Rattle.theory.proofs.Distinct.{Distinct}
-use Rattle.theory.proofs.Expectation.{bit, expect, common_denominator, Ignores, Probable, expect_one}
-use Rattle.theory.proofs.Expectation.{expect_ignored}
+use Rattle.theory.proofs.Expectation.{bit, expect, common_denominator, Ignores, Probable, expect_one, expect_ignored}
 use Rattle.theory.proofs.TestHolds.{Holds}
 
 -- whether e fails does not depend on another event

@@ -2,8 +2,7 @@
 -- and equal fractions stand in it.
 use Prim.Native.Nat.{ℕ, ◌+◌, ◌-◌, ◌*◌, ◌≤◌, ◌<◌}
 use mathlib.Core.Path.{◌≡◌, ap, ap₂}
-use native.Mathlib.Nat.{mul-le-mul, mul-le-mul_right, le_of_mul-le-mul_right, sub-add_cancel, mul-one}
-use native.Mathlib.Nat.{one-mul}
+use native.Mathlib.Nat.{mul-le-mul, mul-le-mul_right, le_of_mul-le-mul_right, sub-add_cancel, mul-one, one-mul}
 use native.Mathlib.Omega.{arith}
 use Rattle.theory.specs.Fraction.{Fraction, Probability, ◌≼◌, one, ◌⊗◌, ◌⊖◌, complement}
 

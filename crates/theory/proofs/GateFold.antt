@@ -5,8 +5,7 @@ use mathlib.Core.List.{List, [], ◌∷◌, map}
 use native.Mathlib.Nat.{add-zero, add-suc, zero-add}
 use native.Mathlib.Omega.{arith}
 use Rattle.theory.specs.FaultTree.{GateKind, all, any, Tree}
-use Rattle.theory.specs.Rounding.{Direction, down, up, End, start, run, gate_end}
-use Rattle.theory.specs.Rounding.{evaluated, all_evaluated}
+use Rattle.theory.specs.Rounding.{Direction, down, up, End, start, run, gate_end, evaluated, all_evaluated}
 use Rattle.theory.specs.GateFold.{seen, turned, folded}
 use Rattle.theory.specs.NodeTable.{Node, event, joint, Table, inputs, build, tree_of, HasLink, Owns, Ranked}
 use Rattle.theory.proofs.TreeOf.{tree_unfolds}

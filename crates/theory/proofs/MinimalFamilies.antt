@@ -11,8 +11,7 @@ use borrow.Author.Tests.{lt-ltb, le-ltb}
 use Rattle.theory.specs.Unreliability.{EventSet, empty_set}
 use Rattle.theory.specs.MinimalCutSets.{Within, SameSet, Family}
 use Rattle.theory.specs.CutSetFamily.{union}
-use Rattle.theory.proofs.Missing.{both_of_and, either_of_or, or_right, and_of_both, or_left, true_of}
-use Rattle.theory.proofs.Missing.{below_or_not}
+use Rattle.theory.proofs.Missing.{both_of_and, either_of_or, or_right, and_of_both, or_left, true_of, below_or_not}
 use Rattle.theory.proofs.MinimalSets.{Depends, ApartSets, Minimal, kept, minimal_of_weaker, and_part, and_whole}
 use Rattle.theory.proofs.MinimalSets.{or_whole, or_apart}
 

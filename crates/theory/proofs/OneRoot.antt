@@ -5,8 +5,7 @@ use mathlib.Core.Logic.{◌≢◌, ◌⊎◌, inl, inr}
 use native.Mathlib.Omega.{arith}
 use Rattle.theory.specs.NodeTable.{Table, link_count, Numbered, Ranked, LinkedOnce, OthersLinked}
 use Rattle.theory.proofs.Sums.{sum, sum_ones, two_terms_at_most_sum}
-use Rattle.theory.proofs.LinkedSums.{Linked, NotLinked, linked_or_not, not_linked, not_linked_elsewhere}
-use Rattle.theory.proofs.LinkedSums.{sum_linked}
+use Rattle.theory.proofs.LinkedSums.{Linked, NotLinked, linked_or_not, not_linked, not_linked_elsewhere, sum_linked}
 use Rattle.theory.proofs.Counting.{links_inside}
 
 module _ (table : Table) (rank : ℕ → ℕ) (ranked : Ranked table rank) (numbered : Numbered table)

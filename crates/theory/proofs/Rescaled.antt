@@ -5,8 +5,7 @@ use native.Mathlib.Nat.{div-add-mod', mod-lt, mul-le-mul_right, lt_of_not-le, no
 use native.Mathlib.Omega.{arith}
 use mathlib.Core.Path.{◌≡◌, refl, sym, ◌∙◌}
 use lib.Dec.{eqb}
-use Rattle.theory.specs.Rounding.{Direction, down, up, IsRounded, rounded, nothing_dropped, LeastReaching}
-use Rattle.theory.specs.Rounding.{rescaled}
+use Rattle.theory.specs.Rounding.{Direction, down, up, IsRounded, rounded, nothing_dropped, LeastReaching, rescaled}
 use Rattle.theory.proofs.Outward.{outward_mark}
 use Rattle.theory.proofs.RoundingMeaning.{rounded_outward, rounded_unique, rounded_at_most}
 

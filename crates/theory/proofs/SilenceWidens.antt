@@ -9,8 +9,7 @@ use lib.Dec.{lit<}
 use Rattle.theory.specs.Interval.{Wider}
 use Rattle.theory.specs.Trapezoid.{Trapezoid, cut}
 use Rattle.theory.specs.Opinion.{Term, very_low, low, fairly_low, medium, fairly_high, high, very_high, term_a}
-use Rattle.theory.specs.Opinion.{term_b, term_d, Opinion, says, silent, opinion_numbers, total_score, weighted}
-use Rattle.theory.specs.Opinion.{mean}
+use Rattle.theory.specs.Opinion.{term_b, term_d, Opinion, says, silent, opinion_numbers, total_score, weighted, mean}
 use Rattle.theory.proofs.MeanRising.{total_append, weighted_append, opinion_rising, mean_rising}
 use Rattle.theory.proofs.CutWider.{Spread, cut_wider}
 

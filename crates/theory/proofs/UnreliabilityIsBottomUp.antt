@@ -8,8 +8,7 @@ use mathlib.Core.List.{List, [], ◌∷◌}
 use mathlib.Core.Logic.{◌⊎◌, inl, inr}
 use lib.Dec.{T, T_not}
 use Rattle.theory.specs.Fraction.{Fraction, ◌≈◌}
-use Rattle.theory.specs.FaultTree.{Tree, Inputs, basic, gate, only, more, events, all_events, contains, beneath}
-use Rattle.theory.specs.FaultTree.{Each}
+use Rattle.theory.specs.FaultTree.{Tree, Inputs, basic, gate, only, more, events, all_events, contains, beneath, Each}
 use Rattle.theory.specs.Unreliability.{EventSet, verdict, fails, which_fail, cut_sets, unreliability}
 use Rattle.theory.specs.BottomUp.{joined, bottom_up, all_bottom_up}
 use Rattle.theory.proofs.Distinct.{Distinct, each_once_distinct, lacks_append, distinct_append}
@@ -20,8 +19,7 @@ use Rattle.theory.proofs.Expectation.{bit, expect, common_denominator, Ignores, 
 use Rattle.theory.proofs.ExpectationProduct.{Separated, left, right, never, always}
 use Rattle.theory.proofs.CutSetSum.{sum_is_expectation, sum_positive}
 use Rattle.theory.proofs.StructureFunction.{fails_ignores}
-use Rattle.theory.proofs.TestHolds.{Holds, AllIgnore, AllSeparated, AllHold, values, holds_agree}
-use Rattle.theory.proofs.TestHolds.{verdict_holds}
+use Rattle.theory.proofs.TestHolds.{Holds, AllIgnore, AllSeparated, AllHold, values, holds_agree, verdict_holds}
 use Rattle.theory.proofs.EventHolds.{event_holds}
 
 -- the probability x is 0 or 1

@@ -1,5 +1,5 @@
 -- The nodes of a well-formed file as they are read, and the links of its gates.
-use Prim.Native.Nat.{ℕ, ◌+◌, ◌-◌, ◌*◌, ◌≤◌, ◌<◌}
+use Prim.Native.Nat.{ℕ, suc, ◌+◌, ◌-◌, ◌*◌, ◌≤◌, ◌<◌}
 use mathlib.Core.Path.{◌≡◌, ◌∙◌, ap}
 use mathlib.Core.Logic.{⊎_elim}
 use mathlib.Core.List.{List}
@@ -11,14 +11,13 @@ use Rattle.fields.specs.Fields.{field16}
 use Rattle.fields.proofs.Parts.{field16_drop, part_from}
 use Rattle.tree_file.specs.Format.{field_a, field_b, kind, link, link_at, link_count, linked, links_from}
 use Rattle.tree_file.specs.Format.{max_inputs, node_count}
-use Rattle.tree_file.specs.Tallies.{event_count, input_count}
+use Rattle.tree_file.specs.Tallies.{event_count, input_count, inputs_before}
 use Rattle.tree_file.specs.NodeTable.{gate_kind, read_node}
 use Rattle.tree_file.specs.WellFormed.{WellFormed}
 use Rattle.tree_file.specs.Requirements.{HasLink}
 use Rattle.tree_file.specs.declared.node.Gate.{Gate as GateNode}
 use Rattle.tree_file.specs.declared.node.Node.TheVariants.{Event, Gate}
-use Rattle.tree_file.proofs.Tallies.{event_below, gate_inputs}
-use Rattle.tree_file.proofs.Accepted.{gate_links_end}
+use Rattle.tree_file.proofs.Tallies.{event_below, gate_inputs, inputs_monotone}
 
 -- A gate as its record says.
 abbrev pub gate_of : List ℕ → ℕ → GateNode
@@ -46,6 +45,13 @@ link_in_part file first j =
     field16_drop file (link_at file first) (2 * j) ∙ ap (λ (n : ℕ). field16 file n) (omega arith)
 
 module _ (file : List ℕ) (w : WellFormed file) (i : ℕ) (l : i < node_count file) where
+  -- A gate's links end within the N − 1 links.
+  pub gate_links_end : 0 < kind file i → field_a file i + field_b file i ≤ link_count file
+  unfolding inputs_before
+  gate_links_end g =
+      let up_to = inputs_monotone file (suc i) (node_count file) l in
+      rw ((w.node i l).gate_first g, ← gate_inputs file i g, ← w.all_inputs) up_to
+
   -- A basic event's number is below E.
   pub event_inside : (e : ℕ) → read_node file i ≡ Event e → e < event_count file
   event_inside e q = go (node_case file i)
@@ -76,7 +82,7 @@ module _ (file : List ℕ) (w : WellFormed file) (i : ℕ) (l : i < node_count f
 
     -- The gate's links end within the N − 1 links.
     pub links_inside : g.first + g.inputs ≤ link_count file
-    links_inside = rw gate_fields.1 (gate_links_end file w i l gate_fields.0)
+    links_inside = rw gate_fields.1 (gate_links_end gate_fields.0)
 
     -- Link j of the gate lies within the part that starts at its first link, and names a node below the gate.
     pub link_inside : (j : ℕ) → j < g.inputs → HasLink (links_from file g.first) j

@@ -12,8 +12,7 @@ use Rattle.tree_file.specs.Format.{link, node_count}
 use Rattle.tree_file.specs.Tallies.{event_count}
 use Rattle.tree_file.specs.WellFormed.{WellFormed}
 use Rattle.tree_file.specs.NodeTable.{fault_tree, node_of, rank, table_of}
-use Rattle.tree_file.proofs.NodeTable.{table_events, table_linked_once, table_numbered, table_ranked}
-use Rattle.tree_file.proofs.NodeTable.{table_rooted}
+use Rattle.tree_file.proofs.NodeTable.{table_events, table_linked_once, table_numbered, table_ranked, table_rooted}
 
 module _ (file : List ℕ) (w : WellFormed file) where
   -- The tree of a node is the basic event that its record names, or the gate over the trees of the nodes that its links

@@ -42,6 +42,10 @@ table_of file = record { size = node_count file; node = node_of file; link = lin
 abbrev pub fault_tree : List ℕ → ℕ → Tree
 fault_tree file i = tree_of (table_of file) i
 
+-- The root is the last node, N − 1: an accepted tree has N at least 1, so the subtraction never stops at 0.
+abbrev pub root : List ℕ → ℕ
+root file = node_count file - 1
+
 -- A node's rank, which falls from a gate to its inputs: in this version its number.
 abbrev pub rank : List ℕ → ℕ → ℕ
 rank file i = i

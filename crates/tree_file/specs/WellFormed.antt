@@ -1,5 +1,5 @@
--- The rules of document 01's section "The tree file", each by itself and in no order. `judged` accepts exactly the
--- well-formed files (`accepted_well_formed` and `well_formed_accepted` of proofs/Accepted).
+-- The rules of document 01's section "The tree file", each by itself and in no order. `judged` of tree_judging
+-- accepts exactly the well-formed files (`accepted_well_formed` and `well_formed_accepted` of its proofs/Accepted).
 use Rattle.std.specs.Prelude.{ℕ, ◌+◌, ◌≤◌, ◌<◌, ◌≡◌, true, List, length}
 use Rattle.tree_file.specs.Format.{event_kind, field_a, field_b, has_letters, kind, link, link_count, max_inputs}
 use Rattle.tree_file.specs.Format.{max_nodes, node_count, or_kind, required_length, version, version_read}

@@ -13,23 +13,23 @@ use Rattle.std.specs.Prelude.{Ok}
 use Rattle.refusals.proofs.FirstFault.{AllAbsent, absent_first_of, both_absent, first_of_absent, first_of_append}
 use Rattle.tree_file.specs.Format.{node_count}
 use Rattle.tree_file.specs.Tallies.{event_count}
-use Rattle.tree_file.specs.Judged.{counts_of as tree_counts}
+use Rattle.tree_judging.specs.Judged.{counts_of as tree_counts}
 use Rattle.opinion_sheet.specs.Format.{unit}
-use Rattle.opinion_sheet.specs.Judged.{fault_of as sheet_fault, counts_of as sheet_counts}
+use Rattle.sheet_judging.specs.Judged.{fault_of as sheet_fault, counts_of as sheet_counts}
 use Rattle.opinion_sheet.specs.WellFormed.{WellFormed}
-use Rattle.opinion_sheet.specs.declared.judgement.Counts.{Counts as SheetCounts}
-use Rattle.opinion_sheet.proofs.Accepted.{accepted_well_formed}
-use Rattle.opinion_sheet.proofs.HeaderKept.{same_counts}
-use Rattle.evaluation.specs.Slices.{Slices}
-use Rattle.monitor.specs.Standing.{held_tree, held_sheet, changed, sheet_changed, other_tree, fitting, level_rules}
+use Rattle.sheet_judging.specs.declared.judgement.Counts.{Counts as SheetCounts}
+use Rattle.sheet_judging.proofs.Accepted.{accepted_well_formed}
+use Rattle.sheet_judging.proofs.HeaderKept.{same_counts}
+use Rattle.work_slices.specs.Slices.{Slices}
+use Rattle.held_pair.specs.Standing.{held_tree, held_sheet, changed, sheet_changed, other_tree, fitting, level_rules}
 use Rattle.monitor.specs.Question.{outcome_of, question_rules, report_of}
-use Rattle.monitor.specs.declared.state.State.{State}
-use Rattle.monitor.proofs.Ready.{unchanged}
-use Rattle.work_windows.specs.OutOfService.{out_of_service}
-use Rattle.work_windows.specs.Sheet.{Written, written_sheet}
+use Rattle.held_files.specs.declared.state.State.{State}
+use Rattle.held_pair.proofs.Ready.{unchanged}
+use Rattle.hour_sheet.specs.OutOfService.{out_of_service}
+use Rattle.hour_sheet.specs.Sheet.{Written, written_sheet}
 use Rattle.work_windows.specs.Question.{lent_rules, hour_rules, written_buffer}
-use Rattle.work_windows.proofs.SheetWritten.{sheet_front, sheet_means}
-use Rattle.work_windows.proofs.Accepted.{written_unfaulted}
+use Rattle.hour_sheet.proofs.SheetWritten.{sheet_front, sheet_means}
+use Rattle.hour_sheet.proofs.Accepted.{written_unfaulted}
 
 module _ (state : State) (tree_store sheet_store book : List ℕ) (k n hour : ℕ) (buffer : List ℕ) (s : Slices)
     (none : first_of (hour_rules state tree_store sheet_store book k n hour buffer s) ≡ Ok tt) where

@@ -1,4 +1,5 @@
--- What a question at an hour comes to, with the buffer and the slices after it, by what the judging finds: one law for each return.
+-- What a question at an hour comes to, with the buffer and the slices after it, by what the judging finds: one law for
+-- each return.
 use Prim.Native.Nat.{ℕ, ◌≤◌}
 use mathlib.Core.Path.{◌≡◌, refl, sym, ap, subst, ◌∙◌}
 use mathlib.Core.List.{List, ◌++◌}
@@ -10,27 +11,25 @@ use Rattle.theory.specs.Unit.{billion}
 use Rattle.refusals.specs.FirstFault.{FirstFault, ◌or_else◌, first_of}
 use Rattle.refusals.specs.declared.refusal.Refusal.{Refusal}
 use Rattle.std.specs.Prelude.{Ok, Err}
-use Rattle.refusals.proofs.FirstFault.{accepted_absent, first_of_absent, first_of_append}
-use Rattle.refusals.proofs.FirstFault.{refused_found, unless_holds}
+use Rattle.refusals.proofs.FirstFault.{accepted_absent, first_of_absent, first_of_append, refused_found, unless_holds}
 use Rattle.tree_file.specs.Format.{node_count}
 use Rattle.tree_file.specs.Tallies.{event_count}
-use Rattle.tree_file.specs.declared.judgement.Counts.{Counts}
-use Rattle.evaluation.specs.Slices.{Slices}
-use Rattle.monitor.specs.Standing.{held_tree, held_sheet, level_rules, standing_of}
+use Rattle.tree_judging.specs.declared.judgement.Counts.{Counts}
+use Rattle.work_slices.specs.Slices.{Slices}
+use Rattle.held_pair.specs.Standing.{held_tree, held_sheet, level_rules, standing_of}
 use Rattle.monitor.specs.Question.{outcome_of, reply_of, slices_left}
 use Rattle.monitor.specs.Promise.{PromisesKept}
-use Rattle.monitor.specs.declared.state.State.{State}
+use Rattle.held_files.specs.declared.state.State.{State}
 use Rattle.std.specs.Prelude.{Result}
 use Rattle.monitor.specs.declared.question.Report.{Report}
-use Rattle.monitor.specs.declared.state.Reply.{Reply}
-use Rattle.monitor.proofs.Ready.{ReadyPair, ready_pair}
-use Rattle.work_windows.specs.BookRules.{book_fault}
-use Rattle.work_windows.specs.Sheet.{written_sheet}
-use Rattle.work_windows.specs.Question.{lent_rules, hour_rules, written_buffer, hour_outcome}
-use Rattle.work_windows.specs.Question.{buffer_left, hour_slices}
-use Rattle.work_windows.specs.Writing.{Writable}
-use Rattle.work_windows.proofs.BookJudged.{unfaulted_well_formed}
-use Rattle.work_windows.proofs.SheetWritten.{sheet_front}
+use Rattle.held_files.specs.declared.state.Reply.{Reply}
+use Rattle.held_pair.proofs.Ready.{ReadyPair, ready_pair}
+use Rattle.work_book.specs.BookRules.{book_fault}
+use Rattle.hour_sheet.specs.Sheet.{written_sheet}
+use Rattle.work_windows.specs.Question.{lent_rules, hour_rules, written_buffer, hour_outcome, buffer_left, hour_slices}
+use Rattle.hour_sheet.specs.Writing.{Writable}
+use Rattle.work_book.proofs.BookJudged.{unfaulted_well_formed}
+use Rattle.hour_sheet.proofs.SheetWritten.{sheet_front}
 
 module _ (state : State) (tree_store sheet_store book : List ℕ) (k n hour : ℕ) (buffer : List ℕ) (s : Slices) where
   -- the two files held, and the sheet of the hour

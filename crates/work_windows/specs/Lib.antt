@@ -1,11 +1,4 @@
 -- Work windows (02, request 4): the level of an hour, with each basic event that is out of service counted as failed.
 -- The main contract is that of `question::question_at_hour`: it answers `hour_reply` and leaves `buffer_left` and
 -- `hour_slices` of Question, and keeps demands 2 and 3 of the hour's sheet as monitor's `PromisesKept` says them.
--- Read in this order. Writing stands for the contracts of functions inside this crate alone.
-pub mod Book
-pub mod BookRules
-pub mod WellFormed
-pub mod OutOfService
-pub mod Sheet
 pub mod Question
-pub mod Writing

@@ -7,14 +7,14 @@ use Rattle.refusals.specs.FirstFault.{FirstFault, unless, first_of}
 use Rattle.refusals.specs.declared.refusal.Refusal.{Refusal}
 use Rattle.tree_file.specs.Format.{node_count}
 use Rattle.tree_file.specs.Tallies.{event_count}
-use Rattle.evaluation.specs.Slices.{Slices}
-use Rattle.monitor.specs.Standing.{held_tree, held_sheet, level_rules, short_slice}
+use Rattle.work_slices.specs.Slices.{Slices}
+use Rattle.held_pair.specs.Standing.{held_tree, held_sheet, level_rules, short_slice}
 use Rattle.monitor.specs.Question.{outcome_of, slices_by, slices_left}
-use Rattle.monitor.specs.declared.state.State.{State}
+use Rattle.held_files.specs.declared.state.State.{State}
 use Rattle.monitor.specs.declared.question.Report.{Report}
-use Rattle.monitor.specs.declared.state.Reply.{Reply}
-use Rattle.work_windows.specs.BookRules.{book_fault}
-use Rattle.work_windows.specs.Sheet.{written_sheet}
+use Rattle.held_files.specs.declared.state.Reply.{Reply}
+use Rattle.work_book.specs.BookRules.{book_fault}
+use Rattle.hour_sheet.specs.Sheet.{written_sheet}
 
 -- 30: the buffer is shorter than the held sheet.
 abbrev pub short_buffer : ℕ → ℕ → FirstFault

@@ -1,15 +1,15 @@
 // Judges what is lent for a question at an hour: refusals 29, 30 and 25.
 ghost use Rattle.std.specs.Prelude.{◌≡◌};
 ghost use Rattle.refusals.specs.FirstFault.{first_of};
-ghost use Rattle.evaluation.specs.Slices.{contents};
+ghost use Rattle.work_slices.specs.Slices.{contents};
 ghost use Rattle.work_windows.specs.Question.{lent_rules};
 
-use crate::book::judge_book;
-use evaluation::slices::WorkSlices;
-use monitor::judge::judge_slices;
+use held_pair::judge::judge_slices;
 use refusals::refusal::Refusal;
 use refusals::rule::Rule;
-use tree_file::judgement::Counts;
+use tree_judging::judgement::Counts;
+use work_book::book::judge_book;
+use work_slices::slices::WorkSlices;
 
 // The first fault of the book, of a buffer of so many bytes for the held sheet, and of the work slices.
 pub fn judge_lent(

@@ -1,19 +1,19 @@
 // Questioning a level at an hour: the hour's sheet is written to a lent buffer, and the question is put to it.
 ghost use Rattle.std.specs.Prelude.{◌≡◌};
 ghost use Rattle.theory.specs.Unit.{billion};
-ghost use Rattle.evaluation.specs.Slices.{SameSlices, contents};
-ghost use Rattle.monitor.specs.Standing.{held_tree, held_sheet};
+ghost use Rattle.work_slices.specs.Slices.{SameSlices, contents};
+ghost use Rattle.held_pair.specs.Standing.{held_tree, held_sheet};
 ghost use Rattle.monitor.specs.Promise.{PromisesKept};
-ghost use Rattle.work_windows.specs.Sheet.{written_sheet};
+ghost use Rattle.hour_sheet.specs.Sheet.{written_sheet};
 ghost use Rattle.work_windows.specs.Question.{buffer_left, hour_outcome, hour_reply, hour_slices};
 
-use crate::hour::BookAtHour;
 use crate::judge::judge_lent;
-use evaluation::slices::WorkSlices;
-use monitor::lent::HeldPair;
-use monitor::question::Report;
-use monitor::state::Reply;
+use held_files::state::Reply;
+use held_pair::lent::HeldPair;
+use hour_sheet::hour::BookAtHour;
+use monitor::question::{Report, question};
 use refusals::refusal::Refusal;
+use work_slices::slices::WorkSlices;
 
 // What a question at an hour comes to, and what it leaves in the buffer and in the work slices.
 fn outcome(
@@ -48,12 +48,12 @@ fn outcome(
         sheet_store: buffer,
         ..held
     };
-    written.question(k, n, slices).outcome
+    question(written, k, n, slices).outcome
 }
 
 // Questions level k of n at an hour, by a book of work windows. Any two numbers are answered, so that k and n are no
-// `Level` yet. The last promise is demands 2 and 3 of the hour's
-// sheet, of the answer and of every node's place in the slices.
+// `Level` yet. The last promise is demands 2 and 3 of the hour's sheet, of the answer and of every node's place in the
+// slices.
 pub fn question_at_hour(
     held: HeldPair,
     at: BookAtHour,

@@ -1,4 +1,4 @@
-//! Fraction entries in the stored list of calls: fractions worked out by hand, each limit and one past it, each fault
+//! Fraction entries among the stored calls: fractions worked out by hand, each limit and one past it, each fault
 //! of 28 at each kind of place, changed bytes, the largest sheets, and generated pairs and lists.
 
 use super::call_lists::fraction_list;
@@ -53,7 +53,6 @@ impl List {
         self.fraction_faults();
         self.fraction_bytes();
         self.largest_fractions();
-        self.generated_fractions();
     }
 
     /// One event; each sheet takes the place of the one before.
@@ -168,7 +167,7 @@ impl List {
     }
 
     /// Pairs with entries of all three kinds, each at a level, and lists of calls.
-    fn generated_fractions(&mut self) {
+    pub(super) fn generated_fractions(&mut self) {
         for index in 0..8 {
             let random = &mut Random::for_case(SEED + 7, index);
             let nodes = small_tree(random, 10);

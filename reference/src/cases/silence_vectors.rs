@@ -1,4 +1,4 @@
-//! Silent experts in the stored list of calls: a term taken away and given back, the refusals of terms, each term beside
+//! Silent experts among the stored calls: a term taken away and given back, the refusals of terms, each term beside
 //! silence, one expert of sixteen silent and one alone speaking, with the least and the best scores, and silence under
 //! gates and at an hour.
 

@@ -1,4 +1,4 @@
-//! Products of a gate's step in the stored list of calls: whole, just below and just above a whole number of units, and
+//! Products of a gate's step among the stored calls: whole, just below and just above a whole number of units, and
 //! at both ends of their range.
 
 use super::valid::Pair;

@@ -1,6 +1,6 @@
-//! The stored list of calls that crates/vectors runs: document 01's table, each limit and one past it, each refusal
-//! with what is left after it, changed stores and states, many questions on one pair, and generated lists; then the
-//! same for minimal cut sets, for fraction entries, and for questions at an hour; then silent experts.
+//! The stored calls, a list for each family: document 01's table, each limit and one past it, each refusal with what is
+//! left after it, and changed stores and states, of levels, minimal cut sets, fraction entries, questions at an hour
+//! and silent experts; many questions on two pairs in a random order; generated pairs, trees and lists.
 
 use super::call_lists::{call_list, set_list};
 use super::changed::changed_input;
@@ -30,28 +30,60 @@ pub(super) struct List {
     pub(super) calls: Vec<Call>,
 }
 
-pub fn vector_list() -> Vec<Call> {
+/// Each is the standard input of a program of crates/, which begins with nothing held and empty stores.
+#[derive(Clone, Copy, PartialEq, Eq, Debug)]
+pub enum Family {
+    /// Calls chosen one by one.
+    Limit,
+    /// Every level of two pairs several times.
+    RandomOrder,
+    Generated,
+}
+
+/// The program of a family has its name, and `_vectors` behind it.
+pub const FAMILIES: [(&str, Family); 3] =
+    [("limit", Family::Limit), ("random_order", Family::RandomOrder), ("generated", Family::Generated)];
+
+/// What writes the calls, in order: the random numbers of all are one row, so that each part hangs on those above it.
+/// No part goes on from what one of another family leaves.
+const PARTS: [(Family, fn(&mut List)); 20] = [
+    (Family::Limit, List::table),
+    (Family::Limit, List::tree_limits),
+    (Family::Limit, List::sheet_limits),
+    (Family::Limit, List::level_limits),
+    (Family::Limit, List::damaged_files),
+    (Family::Limit, List::call_refusals),
+    (Family::Limit, List::changed_bytes),
+    (Family::Limit, List::changed_states),
+    (Family::RandomOrder, List::many_questions),
+    (Family::Generated, List::generated_pairs),
+    (Family::Generated, List::generated_lists),
+    (Family::Limit, List::set_limits),
+    (Family::Limit, List::set_refusals),
+    (Family::Limit, List::set_changes),
+    (Family::Generated, List::generated_sets),
+    (Family::Limit, List::fraction_entries),
+    (Family::Generated, List::generated_fractions),
+    (Family::Limit, List::step_limits),
+    (Family::Limit, List::work_windows),
+    (Family::Limit, List::silence),
+];
+
+pub fn parse_family(word: &str) -> Option<Family> {
+    FAMILIES.iter().find(|(name, _)| *name == word).map(|&(_, family)| family)
+}
+
+pub fn vector_list(family: Family) -> Vec<Call> {
     let mut list = List { random: Random::for_case(SEED, 0), calls: Vec::new() };
-    list.table();
-    list.tree_limits();
-    list.sheet_limits();
-    list.level_limits();
-    list.damaged_files();
-    list.call_refusals();
-    list.changed_bytes();
-    list.changed_states();
-    list.many_questions();
-    list.generated_pairs();
-    list.generated_lists();
-    list.set_limits();
-    list.set_refusals();
-    list.set_changes();
-    list.generated_sets();
-    list.fraction_entries();
-    list.step_limits();
-    list.work_windows();
-    list.silence();
-    list.calls
+    let mut calls = Vec::new();
+    for (written_for, write) in PARTS {
+        write(&mut list);
+        let part = std::mem::take(&mut list.calls);
+        if written_for == family {
+            calls.extend(part);
+        }
+    }
+    calls
 }
 
 /// A pair of one tree and one entry for each event, with four equal numbers.

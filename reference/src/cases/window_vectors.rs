@@ -1,4 +1,4 @@
-//! Questions at an hour in the stored list of calls: the edges of windows, each limit of a book and one past it, each
+//! Questions at an hour among the stored calls: the edges of windows, each limit of a book and one past it, each
 //! refusal at each kind of place and in its order, buffers and slices around their least length, changed bytes, and the
 //! largest tree.
 

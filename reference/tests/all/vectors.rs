@@ -1,7 +1,7 @@
-//! The stored list of calls, as bytes and as text.
+//! The stored calls, as bytes and as text.
 
 use reference::calls::{Call, Desk, Form};
-use reference::cases::vector_list::vector_list;
+use reference::cases::vector_list::{parse_family, vector_list, FAMILIES};
 use reference::cut::Level;
 use reference::describe::{book_bytes, same, sheet_bytes, tree_bytes, Node};
 use reference::monitor::State;
@@ -34,8 +34,24 @@ fn every_kind() -> Vec<Call> {
 fn bytes_and_back() {
     let calls = every_kind();
     assert_eq!(read_stream(&write_stream(&calls)), Some(calls));
-    let list = vector_list();
-    assert_eq!(read_stream(&write_stream(&list)), Some(list));
+    for (name, family) in FAMILIES {
+        let list = vector_list(family);
+        assert_eq!(read_stream(&write_stream(&list)), Some(list), "{name}");
+    }
+}
+
+/// No stored file has more bytes: rt takes so many of a program at most.
+const MOST_STORED: usize = 1 << 20;
+
+#[test]
+fn every_family() {
+    for (name, family) in FAMILIES {
+        assert_eq!(parse_family(name), Some(family));
+        let stream = write_stream(&vector_list(family));
+        let text = stream_text(&stream).unwrap();
+        assert!(!text.is_empty() && stream.len() <= MOST_STORED && text.len() <= MOST_STORED, "{name}");
+    }
+    assert_eq!(parse_family("vectors"), None);
 }
 
 #[test]
@@ -99,11 +115,15 @@ fn streams_that_are_none() {
     }
 }
 
+fn text_of(calls: &[Call]) -> String {
+    let mut desk = Desk::new(Form::Short);
+    calls.iter().map(|call| desk.run(call).unwrap()).collect()
+}
+
 /// Each refusal is met, and so is every kind of answer.
 #[test]
 fn every_answer() {
-    let mut desk = Desk::new(Form::Short);
-    let text: String = vector_list().iter().map(|call| desk.run(call).unwrap()).collect();
+    let text = FAMILIES.map(|(_, family)| text_of(&vector_list(family))).concat();
     for number in (1..=13).chain(20..=30) {
         assert!(text.contains(&format!("refused {number} at ")), "{number}");
     }

@@ -1,5 +1,5 @@
 use Rattle.tree_file.specs.Format.{max_nodes}
-use Rattle.evaluation.specs.Slices.{Long, contents}
+use Rattle.work_slices.specs.Slices.{Long, contents}
 use Rattle.node_lines.proofs.print_nodes.Given as goal
 
 -- Each slice has a place for each node that any tree has.

@@ -1,5 +1,5 @@
 -- The second phase finds the events' ends, and the two report every node.
-use Rattle.opinion_sheet.proofs.Accepted.{well_formed_accepted}
+use Rattle.sheet_judging.proofs.Accepted.{well_formed_accepted}
 use Rattle.evaluation.proofs.Reporting.{events_stored, reported}
 use Rattle.evaluation.proofs.evaluate.evaluate.Goals as goal
 

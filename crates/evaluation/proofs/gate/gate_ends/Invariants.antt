@@ -1,7 +1,7 @@
 -- The running interval after j inputs.
 use Rattle.theory.specs.Unit.{billion}
 use Rattle.tree_file.specs.NodeTable.{kind_as}
-use Rattle.evaluation.specs.Slices.{contents}
+use Rattle.work_slices.specs.Slices.{contents}
 use Rattle.evaluation.proofs.GateTurn.{Running}
 use Rattle.evaluation.proofs.gate.gate_ends.Given as goal
 

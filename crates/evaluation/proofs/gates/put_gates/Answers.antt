@@ -1,7 +1,7 @@
 -- One turn of the loop.
 use Rattle.std.proofs.Common.{arith, lit<, rules}
 use Rattle.theory.specs.Unit.{billion}
-use Rattle.evaluation.proofs.Turns.{reached_start}
+use Rattle.work_slices.proofs.Turns.{reached_start}
 use Rattle.evaluation.proofs.GatesTurn.{gate_asked, gates_next}
 use Rattle.evaluation.proofs.gates.put_gates.Goals as goal
 

@@ -1,9 +1,9 @@
 -- The phase over the places passed.
 use Rattle.theory.specs.Unit.{billion}
 use Rattle.tree_file.specs.Format.{node_count}
-use Rattle.evaluation.specs.Slices.{contents, SameSlices}
+use Rattle.work_slices.specs.Slices.{contents, SameSlices}
 use Rattle.evaluation.specs.Phases.{gate_turn}
-use Rattle.evaluation.proofs.Turns.{Reached}
+use Rattle.work_slices.proofs.Turns.{Reached}
 use Rattle.evaluation.proofs.gates.put_gates.Given as goal
 
 abbrev pub invariant-loop-place : goal.invariant-loop-place

@@ -1,8 +1,9 @@
 -- What is put so far, with the lines still to come, is the whole.
 use Rattle.std.proofs.Common.{◌≡◌, suc, ◌+◌, ◌*◌, ◌≤◌, ◌++◌, length}
-use Rattle.monitor.specs.Standing.{held_tree, held_sheet}
-use Rattle.printer.specs.Line.{most_line}
-use Rattle.printer.specs.Text.{lines_below, levels_text, most_text}
+use Rattle.held_pair.specs.Standing.{held_tree, held_sheet}
+use Rattle.level_text.specs.Line.{most_line}
+use Rattle.printer.specs.Text.{lines_below, levels_text}
+use Rattle.level_text.specs.Room.{most_text}
 use Rattle.printer.proofs.levels.put_levels.Given as goal
 
 abbrev pub invariant-loop-k : goal.invariant-loop-k

@@ -1,8 +1,8 @@
 -- The outcome, the buffer, the slices and the promises, by the standing and by what is lent.
 use Rattle.std.proofs.Common.{refl, sym, ap, Err, ◌∙◌, length-take-le}
 use Rattle.std.proofs.lemmas.Result.{err_from_is_err_and}
-use Rattle.evaluation.specs.Slices.{contents}
-use Rattle.monitor.proofs.Ready.{ready_pair}
+use Rattle.work_slices.specs.Slices.{contents}
+use Rattle.held_pair.proofs.Ready.{ready_pair}
 use Rattle.work_windows.proofs.Reply.{refused_by_judging, refused_by_lent, writable, answered_all}
 use Rattle.work_windows.proofs.question.outcome.Goals as goal
 

@@ -1,6 +1,6 @@
 -- One turn of the loop.
 use Rattle.std.proofs.Common.{arith, rules}
-use Rattle.evaluation.proofs.Turns.{reached_start, reached_next}
+use Rattle.work_slices.proofs.Turns.{reached_start, reached_next}
 use Rattle.evaluation.proofs.EventsTurn.{event_long}
 use Rattle.evaluation.proofs.events.EventCuts.put_events.Goals as goal
 

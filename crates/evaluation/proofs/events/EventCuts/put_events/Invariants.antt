@@ -1,10 +1,10 @@
 -- The phase over the nodes passed.
 use Rattle.theory.specs.Unit.{billion}
 use Rattle.tree_file.specs.Format.{node_count}
-use Rattle.opinion_sheet.specs.EventCut.{cut_at}
-use Rattle.evaluation.specs.Slices.{contents, SameSlices}
+use Rattle.event_cut.specs.EventCut.{cut_at}
+use Rattle.work_slices.specs.Slices.{contents, SameSlices}
 use Rattle.evaluation.specs.Phases.{event_turn}
-use Rattle.evaluation.proofs.Turns.{Reached}
+use Rattle.work_slices.proofs.Turns.{Reached}
 use Rattle.evaluation.proofs.events.EventCuts.put_events.Given as goal
 
 abbrev pub invariant-loop-i : goal.invariant-loop-i

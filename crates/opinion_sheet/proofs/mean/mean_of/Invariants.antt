@@ -1,8 +1,0 @@
--- The sums are those over the experts passed.
-use Rattle.std.specs.Prelude.{◌≡◌}
-use Rattle.opinion_sheet.specs.Opinion.{opinions_among}
-use Rattle.opinion_sheet.proofs.MeanOfOpinions.{sums_of}
-use Rattle.opinion_sheet.proofs.mean.mean_of.Given as goal
-
-abbrev pub invariant-loop-expert : goal.invariant-loop-expert
-invariant-loop-expert l = l.sums ≡ sums_of (opinions_among l.file l.terms l.expert)

@@ -1,8 +1,0 @@
--- The levels at which a sheet is cut.
-use Rattle.std.specs.Prelude.{ℕ, ◌≤◌}
-
--- Level k of n: n is 1 to 1,000, k at most n.
-pub record IsLevel (k n : ℕ) : Type 0 where
-  pub n_positive : 1 ≤ n
-  pub n_bounded : n ≤ 1000
-  pub k_n : k ≤ n

@@ -1,4 +1,0 @@
-pub mod Checksum
-pub mod NoAnswer
-pub mod Pair
-pub mod Shown
