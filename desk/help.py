@@ -31,10 +31,14 @@ A file that breaks a rule is refused: standard output has one line, 'refused R a
 says which rule is broken, in which file and where, and what stands there. Records, links, entries, experts and
 windows are counted from 0. docs/REFUSALS.md has the rules, docs/FORMATS.md the files, docs/GUIDE.md a first day.
 
+Where names.txt lies beside a tree file and beside its sheet or book, the names are compared. Files of different trees,
+or of different orders of the basic events, are not answered; standard error says what differs. A line there tells of a
+names.txt that is not for the file beside it, so that nothing can be compared.
+
 Exit status: 0 all that was asked for was printed or written; 1 a file, a text or a level was refused; 2 bad
 arguments, such as a new file that exists; 3 a program could not be built or run, or its text or files not be
-written; 4 the cut sets were counted, and are too many to be listed; 128 + n ended by the signal n (INT, TERM, HUP or
-QUIT), with all that it had started.
+written; 4 the cut sets were counted, and are too many to be listed; 5 the names say that files are of different trees
+or orders; 128 + n ended by the signal n (INT, TERM, HUP or QUIT), with all that it had started.
 """
 
 LEVELS = """\
@@ -101,9 +105,12 @@ failures/starts, or a term from each expert, Very Low (VL) to Very High (VH), em
 scores are the first two rows. WINDOWS.csv has an event, a first hour and an end hour in each row. docs/FORMATS.md has
 all of it. What is wrong is told with file, line, column and what can be done; nothing is rounded or left out unseen.
 
-The tree's number ties a sheet to its tree: N, or what the tree's text says, or 1. The basic events are numbered in the
-order of the sheet's rows, or with --order mention in that of their first mention in the tree's text; one with a
-statement of its own in it keeps that place.
+The basic events are numbered in the order of the sheet's rows, or with --order mention in that of their first mention
+in the tree's text; one with a statement of its own in it keeps that place.
+
+The tree's number ties a sheet to its tree: N, or what the tree's text says. Where neither says one, it comes from the
+tree itself: its gates, its events' names in their order and the top event's name. So a sheet whose rows were put in
+another order, or that of another system, is refused by 24. Where a number is said, names.txt alone tells them apart.
 """
 
 SHOW = """\
@@ -111,8 +118,9 @@ nekbrod show FILE [--open-psa]
 
 A tree file as Galileo text, or as Open-PSA MEF; an opinion sheet or a book of work windows as CSV. The names are those
 of names.txt beside the file, where they are for it; else basic events are e0, e1, .., gates g with their node's number,
-and experts E1, E2, .. . Writing the Galileo text and the CSV of a pair again gives the same bytes. Open-PSA has the
-same tree; names that are no identifiers stand in its labels.
+and experts E1, E2, .. . Writing the Galileo text and the CSV of a pair again gives the same bytes; it has no tree
+number where that comes from the tree itself. Open-PSA has the same tree; names that are no identifiers stand in its
+labels.
 """
 
 CHECK = """\
@@ -120,7 +128,8 @@ nekbrod check FILE...
 
 For each tree file, opinion sheet and book of work windows a line: what it holds, or the rule that it breaks, with the
 place and what stands there. The proved level printer judges them. A tree file and a sheet alone are also judged as a
-pair; a book is judged with its tree file, which must be named too.
+pair; a book is judged with its tree file, which must be named too. Where all are accepted, the names beside them are
+compared, and the status is 5 where these say that files are of different trees or orders.
 """
 
 WORDS = {"levels": LEVELS, "nodes": NODES, "plot": PLOT, "cut-sets": CUT_SETS, "mirror": MIRROR, "write": WRITE,

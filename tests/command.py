@@ -107,16 +107,18 @@ HELPS = {
     "": ["nekbrod TREE SHEET LEVELS", "nekbrod levels TREE SHEET LEVELS", "nekbrod cut-sets TREE",
          "nekbrod levels --windows BOOK --hour H TREE SHEET LEVELS", "nekbrod mirror TREE SHEET OUT_TREE OUT_SHEET",
          "nekbrod nodes TREE SHEET K N", "nekbrod plot TREE SHEET LEVELS -o FILE.svg", "nekbrod show FILE",
-         "nekbrod write TREE.dft SHEET.csv -o FOLDER", "nekbrod check FILE...", "--version", "Exit status", "128 + n"],
+         "nekbrod write TREE.dft SHEET.csv -o FOLDER", "nekbrod check FILE...", "--version", "Exit status",
+         "5 the names say that files are of different trees\nor orders", "128 + n"],
     "levels": ["nekbrod TREE SHEET LEVELS", "--csv", "--windows BOOK --hour H", "since", "in billionths"],
     "cut-sets": ["nekbrod cut-sets TREE", "--numbers", "100000"],
     "mirror": ["nekbrod mirror TREE SHEET OUT_TREE OUT_SHEET", "main engine working", "1 minus the upper end",
                "comes back as fractions"],
     "nodes": ["nekbrod nodes TREE SHEET K N [--csv]", "names.txt"],
     "plot": ["TREE SHEET LEVELS -o FILE.svg", "staircase", "logarithmic"],
-    "write": ["nekbrod write TREE.dft SHEET.csv", "-o FOLDER", "--number N", "--order rows|mention", "Open-PSA"],
+    "write": ["nekbrod write TREE.dft SHEET.csv", "-o FOLDER", "--number N", "--order rows|mention", "Open-PSA",
+              "comes from the\ntree itself", "is refused by 24"],
     "show": ["nekbrod show FILE [--open-psa]", "the same bytes"],
-    "check": ["nekbrod check FILE..."],
+    "check": ["nekbrod check FILE...", "the status is 5"],
 }
 
 

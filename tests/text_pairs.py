@@ -6,7 +6,8 @@
 Each pair is written as text here, by random habits: Galileo or Open-PSA, commas or semicolons, points or commas. The
 command's own modules make the files, the proved level printer answers them, and its ends are held to an exact rational
 evaluation of what the text says: safe, near, and marked exactly where they are exact. Shown as text and written again,
-the files are the same to the byte. Every 100th pair goes through the command itself.
+the files are the same to the byte; with the sheet's rows in another order their names tell them apart, and where no
+number is said their numbers do as a rule. Every 100th pair goes through the command itself.
 """
 
 import os
@@ -15,6 +16,7 @@ import subprocess
 import sys
 import tempfile
 import time
+import zlib
 from fractions import Fraction
 from xml.sax.saxutils import quoteattr
 
@@ -27,7 +29,7 @@ sys.dont_write_bytecode = True
 from desk.commands.write import made_of  # noqa: E402
 from desk.text.fault_tree import held_tree  # noqa: E402
 from desk.text.galileo import galileo_text  # noqa: E402
-from desk.text.names import parse_names  # noqa: E402
+from desk.text.names import difference, parse_names  # noqa: E402
 from desk.text.sheet import Expert, held_sheet, sheet_text  # noqa: E402
 
 LEVELS = os.path.join(ROOT, "crates/levels/out/levels")
@@ -209,6 +211,27 @@ def shown_again(name, folder, files):
     hold(f"{name}: written again", made == files, galileo_text(tree))
 
 
+def own_number(files):
+    """The number that comes from the tree itself, by docs/FORMATS.md."""
+    tree, names = files["tree.ftf"], parse_names(files["names.txt"].decode())
+    text = "".join(f"{name}\n" for name in [*names.events(), names.all_nodes()[-1]])
+    return 2 + zlib.crc32(tree[:5] + b"\0\0" + tree[7:] + text.encode()) % 65534
+
+
+def sorted_rows(draw, name, paths, files, rows, experts, number):
+    """Of the same tree, with the rows in another order: other names at the numbers, and the number that is due."""
+    others = draw.sample(rows, len(rows))
+    write(paths[1], as_csv(draw, experts, others))
+    made, _ = made_of(paths, None, True)
+    names, other_names = (parse_names(each["names.txt"].decode()) for each in (files, made))
+    is_other = names.events() != other_names.events()
+    hold(f"{name}: rows in another order", other_names.events() == [event for event, _ in others], other_names)
+    hold(f"{name}: told apart by their names", (difference(names, other_names) is not None) == is_other, others)
+    due = own_number(made) if number is None else number
+    hold(f"{name}: the number of another order", made["tree.ftf"][5:7] == made["sheet.fts"][5:7]
+         == due.to_bytes(2, "little"), due)
+
+
 def write(name, data):
     with open(name, "wb") as file:
         file.write(data)
@@ -233,8 +256,8 @@ def one_pair(draw, name, folder, through_command):
     write(paths[1], as_csv(draw, experts, [(event, cells) for event, (cells, _) in entries.items()]))
     by_rows = draw.random() < 0.5
     files, _ = made_of(paths, None, by_rows)
-    due = 1 if number is None else number
-    hold(f"{name}: the tree's number", files["tree.ftf"][5:7] == due.to_bytes(2, "little"))
+    due = own_number(files) if number is None else number
+    hold(f"{name}: the tree's number", files["tree.ftf"][5:7] == files["sheet.fts"][5:7] == due.to_bytes(2, "little"))
     if by_rows:
         events_written = parse_names(files["names.txt"].decode()).events()
         hold(f"{name}: the events in the order of rows", events_written == list(entries), events_written)
@@ -242,6 +265,7 @@ def one_pair(draw, name, folder, through_command):
     shown_again(name, folder, files)
     if through_command:
         by_command(name, folder, paths, files, by_rows)
+    sorted_rows(draw, name, paths, files, [(event, cells) for event, (cells, _) in entries.items()], experts, number)
 
 
 def by_command(name, folder, paths, files, by_rows):

@@ -17,6 +17,7 @@ import sys
 import tempfile
 import time
 import unicodedata
+import zlib
 from struct import pack, unpack_from
 
 from counted import finish, hold
@@ -30,9 +31,10 @@ from desk.text.galileo import galileo_text, read_galileo
 from desk.text.open_psa import open_psa_text, read_open_psa
 
 
-def galileo(text, rows=()):
+def galileo(text, rows=(), number=0):
+    """The tree of a text; `number` is that of a text which says none, None for the tree's own."""
     stated = read_galileo("t.dft", text)
-    return arranged(stated, stated.number or 0, rows)
+    return arranged(stated, number if stated.number is None else stated.number, rows)
 
 
 def open_psa(data, rows=()):
@@ -156,9 +158,59 @@ def galileo_reading():
         hold(f"the number of {text!r}", stated.number == number, stated)
 
 
+def own_number(tree):
+    """By docs/FORMATS.md."""
+    data = tree.data()
+    names = [*tree.events(), tree.nodes[-1].name]
+    return 2 + zlib.crc32(data[:5] + b"\0\0" + data[7:] + "".join(f"{name}\n" for name in names).encode()) % 65534
+
+
+# Texts without a number, the rows, and the number that comes from the tree itself: it is the same in every release.
+OWN_NUMBERS = [
+    ("toplevel T; T or G c; G and a b;", "a b c", 13094), ("toplevel T; T or G c; G and a b;", "c a b", 61451),
+    ("toplevel A;", "", 65502), ('toplevel "Kühlwasser 冷却水";', "", 4712),
+    ("toplevel T; T and A G; G or B C;", "", 48641),
+]
+# What is changed of the last one, and whether the number is another then.
+OTHER_TREES = [
+    ("the order of the rows", "toplevel T; T and A G; G or B C;", "A C B", True),
+    ("an event's name", "toplevel T; T and A G; G or B D;", "A B D", True),
+    ("names with a space moved", 'toplevel T; T and "A " G; G or " B" C;', "A B C", False),
+    ("a gate's kind", "toplevel T; T or A G; G or B C;", "A B C", True),
+    ("both kinds", "toplevel T; T or A G; G and B C;", "A B C", True),
+    ("what a gate joins", "toplevel T; T and B G; G or A C;", "A B C", True),
+    ("the order of inputs", "toplevel T; T and G A; G or B C;", "A B C", True),
+    ("a gate more", "toplevel T; T and A G; G or B H; H or C;", "A B C", True),
+    ("an event more", "toplevel T; T and A G; G or B C D;", "A B C D", True),
+    ("the top's name", "toplevel U; U and A G; G or B C;", "A B C", True),
+    ("another gate's name", "toplevel T; T and A H; H or B C;", "A B C", False),
+    ("the order of statements", "G or B C; T and A G; toplevel T; // a comment", "A B C", False),
+]
+
+
+def own_numbers():
+    for text, rows, number in OWN_NUMBERS:
+        tree = galileo(text, rows.split(), None)
+        hold(f"the number of {text!r}, rows {rows}", tree.number == own_number(tree) == number, tree)
+        hold(f"the number of {text!r}: it is not written", "nekbrod" not in galileo_text(tree), galileo_text(tree))
+        text = f"{text}\n"
+        said = galileo(f"// nekbrod: tree number {number}\n{text}", rows.split(), None)
+        hold(f"the number {number} of {text!r}, said", said == tree, said)
+        for other in 0, 1, 65535, number + 1, number - 1:
+            said = galileo(f"// nekbrod: tree number {other}\n{text}", rows.split(), None)
+            hold(f"the number {other} of {text!r}", said == tree._replace(number=other), said)
+            hold(f"the number {other} of {text!r}, written", galileo_text(said).splitlines()[0]
+                 == f"// nekbrod: tree number {other}", galileo_text(said))
+    for name, text, rows, is_other in OTHER_TREES:
+        tree = galileo(text, rows.split(), None)
+        hold(f"{name}: another number", (tree.number != number) == is_other, tree)
+
+
 ONLY = "only and and or have a place in a tree file"
-OR_IS_SAFE = f"{ONLY}: or in its place is on the safe side, since it fails no later"
-AND_IS_SAFE = f"{ONLY}: and in its place is on the safe side, since it leaves the order out"
+AT_MOST = "the true probability is at most the upper end, and may lie below the lower one"
+AT_LEAST = "the true probability is at least the lower end, and may lie above the upper one"
+OR_OR_AND = f"{ONLY}: with or in its place {AT_MOST}; with and {AT_LEAST}"
+AND_IN_PLACE = f"{ONLY}: with and in its place, which leaves the order out, {AT_MOST}"
 MOVE = "the figures of an event stand in its row of the sheet: move them there"
 LEAVE = f'{MOVE}, and leave "A"; or nothing here'
 NO_TOP = (1, 1, "the file has no toplevel", 'name the top in a statement of its own: toplevel "NAME";')
@@ -219,16 +271,18 @@ GALILEO_FAULTS = [
     ("// nekbrod: tree number 3\n// nekbrod: tree number 3\ntoplevel A;",
      (2, 1, "the tree number stands twice, first at line 1, column 1", "take one of the two out")),
     ("toplevel A; A xor B;\r\nB 2of3 C D E; C or @;\rD;\nparam p;\n",
-     (1, 15, 'the gate "A" is of the kind xor', ONLY), (2, 3, 'the gate "B" is of the kind 2of3', OR_IS_SAFE),
+     (1, 15, 'the gate "A" is of the kind xor', ONLY), (2, 3, 'the gate "B" is of the kind 2of3', OR_OR_AND),
      (2, 20, "the character @ (U+0040) is not expected here", IN_QUOTES),
      (4, 1, "param names a figure", f"{MOVE}, and take the statement out")),
 ]
 
 OTHER_KINDS = [
+    # Votes that three inputs cannot have are among them.
     *((kind, ONLY) for kind in ("xor", "por", "por<=", "spare", "wsp", "csp", "hsp", "fdep", "pdep", "seq", "mutex",
-                                "not", "inhibit", "ADN", "0of3", "vot0", "of3", "=1")),
-    *((kind, AND_IS_SAFE) for kind in ("pand", "pand<=", "pand<", "pand>", "pand-incl", "pand-excl", "PAND")),
-    *((kind, OR_IS_SAFE) for kind in ("2of3", "vot2", "2OF3", "4of3", "4of4", "vot4", "2of2")),
+                                "not", "inhibit", "ADN", "0of3", "vot0", "of3", "=1", "4of3", "4of4", "vot4", "2of2",
+                                "2of4", "10of3", "vot10", f"{'9' * 5000}of3", f"vot{'9' * 5000}")),
+    *((kind, AND_IN_PLACE) for kind in ("pand", "pand<=", "pand<", "pand>", "pand-incl", "pand-excl", "PAND")),
+    *((kind, OR_OR_AND) for kind in ("2of3", "vot2", "2OF3", "02of03")),
     *((kind, f"{ONLY}: write or") for kind in ("1of3", "vot1", "01of3", "1of4")),
     *((kind, f"{ONLY}: write and") for kind in ("3of3", "vot3", "03of03", "VOT3")),
 ]
@@ -518,10 +572,12 @@ MODEL_FAULTS = [
 
 OTHER_FORMULAS = [
     *((tag, "", ONLY_THESE) for tag in ("not", "xor", "nand", "nor", "cardinality", "iff", "imply", "atleast")),
-    *(("atleast", f' min="{least}"', ONLY_THESE) for least in ("0", "x", "")),
+    *(("atleast", f' min="{least}"', ONLY_THESE)
+      for least in ("0", "x", "", "4", "10", "9" * 5000, "\u0662", "\u00b2")),
     *(("atleast", f' min="{least}"', f"{ONLY_THESE}: write <or>") for least in ("1", "01")),
     *(("atleast", f' min="{least}"', f"{ONLY_THESE}: write <and>") for least in ("3", "003")),
-    ("atleast", ' min="2"', f"{ONLY_THESE}: <or> in its place is on the safe side, since it fails no later"),
+    *(("atleast", f' min="{least}"', f"{ONLY_THESE}: with <or> in its place {AT_MOST}; with <and> {AT_LEAST}")
+      for least in ("2", "02", " 2 ")),
 ]
 UNREADABLE = [
     # bytes, the encoding, where the first byte is that is not in it
@@ -655,8 +711,13 @@ def round_trips(random, count):
         named = held_tree(data, random_names(random, len(plain.nodes)))
         hold("a random tree is one", is_accepted(data) and plain.data() == data, data)
         for tree in plain, named:
-            again = galileo(galileo_text(tree), tree.events())
+            again = galileo(galileo_text(tree), tree.events(), None)
             hold("as Galileo and back", again == tree and again.data() == data, galileo_text(tree), again)
+            own = tree._replace(number=own_number(tree))
+            text = galileo_text(own)
+            again = galileo(text, tree.events(), None)
+            hold("with a number of its own, and back", again == own and "nekbrod: tree" not in text, text, again)
+            hold("the range of a number of its own", 2 <= own.number <= 65535, own.number)
         again = open_psa(open_psa_text(plain), plain.events())
         hold("as Open-PSA and back", shape(again) == shape(plain) and again.events() == plain.events(), plain, again)
         again = open_psa(open_psa_text(named), plain.events())
@@ -710,7 +771,7 @@ def garbage(random, rounds):
                 tree = reader(text)
                 trees += 1
                 hold("a tree of garbage is accepted", is_accepted(tree.data()), data)
-                hold("and written again", galileo(galileo_text(tree), tree.events()) == tree, data)
+                hold("and written again", galileo(galileo_text(tree), tree.events(), None) == tree, data)
             except Faulty as faulty:
                 collected += len(faulty.faults)
                 hold("the faults of garbage", is_told(faulty), data, [fault.sentence() for fault in faulty.faults])
@@ -760,6 +821,7 @@ def main(words):
     print(f"fault trees as text, seed {seed}")
     small_trees()
     galileo_reading()
+    own_numbers()
     galileo_faults()
     tree_faults()
     open_psa_reading()

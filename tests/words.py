@@ -1,6 +1,6 @@
 #!/usr/bin/env -S python3 -B
 # The command's words for texts, names and pictures: write, show, check, nodes, plot, levels --csv, and the names of
-# cut-sets. What is due is worked out by hand, or stands in the shipped examples.
+# cut-sets; and files that do not belong together. What is due is worked out by hand, or stands in the shipped examples.
 # All but the shipped examples run in a copy, where a stand-in for rt is on the path.
 import contextlib
 import os
@@ -26,7 +26,9 @@ sys.dont_write_bytecode = True
 
 from desk.commands.check import given  # noqa: E402
 from desk.commands.show import text_of  # noqa: E402
+from desk.commands.together import check_together  # noqa: E402
 from desk.commands.write import made_of  # noqa: E402
+from desk.screen import Stop  # noqa: E402
 from desk.text.faults import Faulty  # noqa: E402
 
 COMMAND = os.path.join(ROOT, "nekbrod")
@@ -158,10 +160,17 @@ THREE_SHEET = "b,0.2\nc,0.3\na,0.1\n"
 FIGURES = {"a": 100000000, "b": 200000000, "c": 300000000}
 
 
-def three_files(order, number=1):
-    """By hand: an OR of c, a and b, whose events stand in this order."""
-    records = [(0, 0, 0), (0, 1, 0), (0, 2, 0), (2, 0, 3)]
-    files = {"tree.ftf": tree(records, [order.index(name) for name in "cab"], number),
+def own_number(data, *names):
+    """By docs/FORMATS.md, from a tree file of the number 0, the names of its events and that of its top."""
+    return 2 + zlib.crc32(data + "".join(f"{name}\n" for name in names).encode()) % 65534
+
+
+def three_files(order, number=None):
+    """By hand: an OR of c, a and b, whose events stand in this order; with its own number where none is given."""
+    records, links = [(0, 0, 0), (0, 1, 0), (0, 2, 0), (2, 0, 3)], [order.index(name) for name in "cab"]
+    if number is None:
+        number = own_number(tree(records, links, 0), *order, "top")
+    files = {"tree.ftf": tree(records, links, number),
              "sheet.fts": sheet([four(*[FIGURES[name]] * 4) for name in order], number=number)}
     nodes = [*(f"event {name}" for name in order), "or top"]
     return {**files, "names.txt": names_text(files.values(), nodes)}
@@ -174,7 +183,7 @@ def numbers_and_orders(writing):
     for name, words, files in (
             ("no number", texts, three_files("bca")),
             *((f"the number {number}", [*texts, "--number", number], three_files("bca", int(number)))
-              for number in ("0", "7", "65535", "0007")),
+              for number in ("0", "1", "7", "65535", "0007")),
             ("the text's own number", numbered, three_files("bca", 77)),
             ("a number above the text's own", [*numbered, "--number", "5"], three_files("bca", 5)),
             ("the order of rows", [*texts, "--order", "rows"], three_files("bca")),
@@ -890,12 +899,25 @@ def edited_names(writing):
              == [read(file) for file in pair], ran)
 
 
+def are_compared(files, name):
+    """Whether the names beside files are compared: nothing comes of it, or status 5."""
+    try:
+        with contextlib.redirect_stderr(None):
+            check_together(files)
+    except Stop as stop:
+        hold(f"{name}: compared", stop.status == 5)
+        return True
+    except Exception as error:
+        hold(f"{name}: compared: {error!r}", False)
+    return False
+
+
 def garbled_names(work, seed):
-    """Whatever a names file has, a text comes of every file beside it."""
+    """Whatever a names file has, a text comes of every file beside it, and its names are compared."""
     folder = os.path.join(work, "garbled names")
     files = {file: write(os.path.join(folder, file), data) for file, data in shipped("cooling_pumps").items()}
     names = read(files["names.txt"])
-    kept = names.index(b"0 event")
+    kept, apart = names.index(b"0 event"), 0
     for index in range(GARBLED):
         draw = random.Random(f"{seed} {index}")
         data = garbled(draw, names)
@@ -913,6 +935,9 @@ def garbled_names(work, seed):
             except Exception as error:
                 wrong = error
             hold(f"garbled names, seed {seed}, round {index}: {file}: {wrong!r}", text)
+        pair = ("tree file", PUMPS[0]), ("opinion sheet", files["sheet.fts"]), ("book", files["windows.ftw"])
+        apart += are_compared([(what, path, read(path)) for what, path in pair], f"garbled names, round {index}")
+    hold("garbled names: some are apart, and some are not", 0 < apart < GARBLED, apart)
 
 
 # A gate without a name is called by its node number.
@@ -1440,6 +1465,320 @@ def mirror_beside(writing):
          ['"phone" "engine"', '"phone" "battery"'])
 
 
+# By hand: G is 0.1 × 0.1, so that T is 1 - 0.99 × 0.1; with c's figure taken for a's and a's for b's it would be 0.181.
+T_TREE = 'toplevel "T";\n"T" or "G" "{c}";\n"G" and "{a}" "{b}";\n'
+T_ROWS, T_SORTED = "{a},0.1\n{b},0.1\n{c},0.9\n", "{c},0.9\n{a},0.1\n{b},0.1\n"
+# The figures of another month, or of another engine: 1 - 0.99 × 0.5.
+T_OTHER = T_ROWS.replace("0.9", "0.5")
+T_NAMES = {"a": "a", "b": "b", "c": "c"}
+T_BOOK = "{c},5,6\n"
+# With this name both orders come to one number, as one change of 65,534 does.
+ALIKE, ALIKE_NUMBER = {**T_NAMES, "a": "pump 117148"}, 23096
+TREE_FILE, SHEET_FILE, BOOK_FILE = "tree.ftf", "sheet.fts", "windows.ftw"
+
+
+def two_levels(number, end=901000000):
+    """What is printed where both levels are this end, exactly."""
+    return f"tree {number} events 3 levels 1\n1 {end} = {end} =\n0 {end} = {end} =\n"
+
+
+class Folders:
+    """Folders of files that write makes, and what is asked of files of different folders."""
+
+    # The ways to ask; None for all.
+    asked_by = None
+
+    def __init__(self, copy, work):
+        self.copy, self.place = copy, os.path.join(work, "folders")
+        self.svg, *self.mirror = (os.path.join(self.place, name) for name in ("out.svg", "out.ftf", "out.fts"))
+
+    def path(self, *names):
+        return os.path.join(self.place, *names)
+
+    def write(self, folder, texts, *words, names=T_NAMES):
+        """Writes a folder of a tree's text, a spreadsheet and perhaps a book's, with these names in them."""
+        texts = [write(self.path("texts", f"{folder} {i}"), text.format(**names)) for i, text in enumerate(texts)]
+        ran = self.copy.run("write", *texts, "-o", self.path(folder), *words)
+        hold(f"the folder {folder} is written", ran.status == 0, ran)
+
+    def without(self, name, folder, other):
+        """A folder with the files of another, but for the one of this name."""
+        for file, data in all_in(self.path(other)).items():
+            if file != name:
+                write(self.path(folder, file), data)
+
+    def words(self, tree_file, sheet_file):
+        """The ways to ask about a pair, without a book."""
+        pair = tree_file, sheet_file
+        ways = {"levels": [*pair, "1"], "levels --csv": ["levels", "--csv", *pair, "1"],
+                "nodes": ["nodes", *pair, "1", "1"], "nodes --csv": ["nodes", *pair, "1", "1", "--csv"],
+                "plot": ["plot", *pair, "1", "-o", self.svg], "mirror": ["mirror", *pair, *self.mirror],
+                "check": ["check", *pair], "check, the sheet first": ["check", *reversed(pair)]}
+        return {name: ways[name] for name in self.asked_by or ways}
+
+    def clear(self):
+        for path in self.svg, *self.mirror:
+            if os.path.lexists(path):
+                os.remove(path)
+
+    def hold_unwritten(self, name, ran):
+        hold(f"{name}: no file", not any(map(os.path.lexists, (self.svg, *self.mirror))), ran)
+        self.clear()
+
+    def refused(self, name, tree_folder, sheet_folder, number, sheet_number, events=3):
+        """Every word refuses the tree of one folder with the sheet of another by 24, in the page's words."""
+        pair = self.path(tree_folder, TREE_FILE), self.path(sheet_folder, SHEET_FILE)
+        sentence = not_a_pair(number, events, sheet_number, events)
+        for words, asked in self.words(*pair).items():
+            ran = self.copy.run(*asked)
+            if asked[0] == "check":
+                hold(f"{name}, {words}", ran.status == 1 and ran.errors == ""
+                     and ran.out.decode().splitlines()[2:] == [sentence], ran)
+            else:
+                refused_line(f"{name}, {words}", ran, "refused 24 at 0", sentence, f"aboard: {table_rows()[24][0][3]}")
+            self.hold_unwritten(f"{name}, {words}", ran)
+
+    def apart(self, name, one, other, found, ways):
+        """Each way to ask ends with status 5 and the sentence alone, and check with what the files hold before it."""
+        line = (f"{one} and {other} are of different trees, or of different orders of the basic events: {found}; "
+                "take files that were written together, or write them again")
+        for words, asked in ways.items():
+            ran = self.copy.run(*asked)
+            hold(f"{name}, {words}: status", ran.status == 5, ran)
+            held = len(asked) - 1 if asked[0] == "check" else 0
+            hold(f"{name}, {words}: no interval", ran.out.count(b"\n") == held and b"refus" not in ran.out, ran)
+            hold(f"{name}, {words}: the sentence", ran.errors == f"nekbrod: {line}\n", ran)
+            self.hold_unwritten(f"{name}, {words}", ran)
+
+    def pair_apart(self, name, tree_folder, sheet_folder, thing, first, second):
+        pair = self.path(tree_folder, TREE_FILE), self.path(sheet_folder, SHEET_FILE)
+        paths = self.path(tree_folder, "names.txt"), self.path(sheet_folder, "names.txt")
+        self.apart(name, *pair, f"{thing} is {first} by {paths[0]} and {second} by {paths[1]}", self.words(*pair))
+
+    def answered(self, name, tree_folder, sheet_folder, out, *lines):
+        """The levels, and of every other word an answer; on standard error these lines alone."""
+        pair = self.path(tree_folder, TREE_FILE), self.path(sheet_folder, SHEET_FILE)
+        said(name, self.copy.run(*pair, "1"), 0, *lines, out=out)
+        for words, asked in self.words(*pair).items():
+            ran = self.copy.run(*asked)
+            # Tables have a line of their own where names are another file's.
+            kept = [line for line in ran.lines if not line.endswith(NUMBERS_STAND)]
+            hold(f"{name}, {words}", ran.status == 0 and kept == [f"nekbrod: {line}" for line in lines], ran)
+            self.clear()
+
+
+def of_another_order(folders):
+    """A spreadsheet is sorted, written again, and its sheet put to the tree of before."""
+    texts, of_sorted = (T_TREE, T_ROWS), (T_TREE, T_SORTED)
+    folders.write("old", texts)
+    folders.write("new", of_sorted)
+    for folder, number in ("old", 13094), ("new", 61451):
+        folders.answered(f"the {folder} pair", folder, folder, two_levels(number))
+    folders.refused("a sorted sheet", "old", "new", 13094, 61451)
+    folders.refused("an unsorted sheet", "new", "old", 61451, 13094)
+    for name, names, words, number in (("said", T_NAMES, ["--number", "5"], 5), ("alike", ALIKE, [], ALIKE_NUMBER)):
+        old, new = f"old {name}", f"new {name}"
+        folders.write(old, texts, *words, names=names)
+        folders.write(new, of_sorted, *words, names=names)
+        for folder in old, new:
+            folders.answered(f"a number {name}, the pair {folder}", folder, folder, two_levels(number))
+        first = f'"{names["a"]}"'
+        folders.pair_apart(f"a number {name}, a sorted sheet", old, new, "event 0", first, '"c"')
+        folders.pair_apart(f"a number {name}, an unsorted sheet", new, old, "event 0", '"c"', first)
+    shown_and_sorted(folders)
+
+
+def shown_and_sorted(folders):
+    """The texts that show gives of a pair write it again; with sorted rows they write another tree's."""
+    texts = []
+    for file, due in ((TREE_FILE, 'toplevel "T";\n"G" and "a" "b";\n"T" or "G" "c";\n'),
+                      (SHEET_FILE, "event\nscore\na,0.1\nb,0.1\nc,0.9\n")):
+        said(f"{file} of a number of its own, shown", folders.copy.run("show", folders.path("old", file)), 0, out=due)
+        texts.append(due)
+    folders.write("shown", texts)
+    hold("shown and written again", all_in(folders.path("shown")) == all_in(folders.path("old")))
+    folders.write("shown sorted", (texts[0], T_SORTED))
+    hold("shown, sorted and written again", all_in(folders.path("shown sorted")) == all_in(folders.path("new")))
+    ran = folders.copy.run("show", "--open-psa", folders.path("old", TREE_FILE))
+    hold("its Open-PSA text has the number", b'name="tree-number" value="13094"' in ran.out, ran)
+
+
+def alike_in_bytes(folders):
+    """Files that have the same bytes under other names are of another tree all the same."""
+    other = {"a": "valve 1", "b": "valve 2", "c": "valve 3"}
+    folders.write("valves", (T_TREE, T_OTHER), "--number", "5", names=other)
+    hold("two trees of the same bytes", read(folders.path("valves", TREE_FILE)) == read(
+        folders.path("old said", TREE_FILE)))
+    folders.pair_apart("a sheet of a tree of the same bytes", "old said", "valves", "event 0", '"a"', '"valve 1"')
+    folders.write("swapped", (T_TREE, "{b},0.1\n{a},0.1\n{c},0.9\n"), "--number", "5")
+    hold("two sheets of the same bytes", read(folders.path("swapped", SHEET_FILE)) == read(
+        folders.path("old said", SHEET_FILE)))
+    folders.pair_apart("a sheet of the same bytes", "old said", "swapped", "event 0", '"a"', '"b"')
+
+
+def of_another_system(folders):
+    """Sheets of systems with as many basic events, whose texts say no number, or the same one."""
+    numbers = re.compile(r"<attributes>.*?</attributes>|// nekbrod: tree number [0-9]+", re.DOTALL)
+    for name in "container_seal", "cooling_pumps":
+        texts = [read(path).decode() for path in example(name, *EXAMPLES[name][0][:2])]
+        texts = [numbers.sub("", text) for text in texts]
+        folders.write(name, texts)
+        folders.write(f"{name} 5", texts, "--number", "5")
+    seal, pumps = (int.from_bytes(read(folders.path(name, TREE_FILE))[5:7], "little")
+                   for name in ("container_seal", "cooling_pumps"))
+    hold("two systems have two numbers", seal != pumps and min(seal, pumps) >= 2)
+    folders.refused("the pumps' sheet", "container_seal", "cooling_pumps", seal, pumps, 6)
+    folders.refused("the seal's sheet", "cooling_pumps", "container_seal", pumps, seal, 6)
+    folders.pair_apart("the pumps' sheet, one number", "container_seal 5", "cooling_pumps 5", "the top event",
+                       '"container"', '"no sea water to the coolers"')
+    # The same names for the parts of another engine: the top's name alone tells them apart.
+    other = T_TREE.replace('"T"', '"U"'), T_OTHER
+    folders.write("engine 2", other)
+    folders.write("engine 2 said", other, "--number", "5")
+    folders.refused("engine 2's sheet", "old", "engine 2", 13094,
+                    int.from_bytes(read(folders.path("engine 2", TREE_FILE))[5:7], "little"))
+    folders.pair_apart("engine 2's sheet, one number", "old said", "engine 2 said", "the top event", '"T"', '"U"')
+    folders.write("other gates", (T_TREE.replace('"G" and', '"G" or'), T_OTHER), "--number", "5")
+    folders.pair_apart("a sheet of other gates", "old said", "other gates", "node 3", "an AND", "an OR")
+    folders.write("gates of one", (T_TREE.replace('"G" "{c}"', '"G" "H";\n"H" or "{c}"'), T_OTHER), "--number", "5")
+    folders.pair_apart("a sheet of a gate more", "old said", "gates of one", "node 5", "not there", "an OR")
+
+
+def of_one_tree(folders):
+    """What is answered: another month's sheet, names that are not there, not for the file, or edited."""
+    folders.write("may", (T_TREE, T_OTHER))
+    folders.write("may said", (T_TREE, T_OTHER), "--number", "5")
+    folders.answered("another month's sheet", "old", "may", two_levels(13094, 505000000))
+    folders.answered("another month's sheet, a number said", "old said", "may said", two_levels(5, 505000000))
+    folders.write("renamed", (T_TREE.replace('"G"', '"both"'), T_OTHER))
+    folders.answered("a sheet of a tree with a gate renamed", "old", "renamed", two_levels(13094, 505000000))
+    folders.without("names.txt", "old unnamed", "old said")
+    folders.without("names.txt", "new unnamed", "new said")
+    wrong = two_levels(5, 181000000)
+    for name, tree_folder, sheet_folder in (("no names beside the tree", "old unnamed", "new said"),
+                                            ("no names beside the sheet", "old said", "new unnamed"),
+                                            ("no names", "old unnamed", "new unnamed")):
+        folders.answered(f"nothing to compare, {name}", tree_folder, sheet_folder, wrong)
+    names_not_for_it(folders, wrong)
+
+
+def names_not_for_it(folders, wrong):
+    """A line where names are for one file of two, and those beside the other are not for it."""
+    unknown = "{}: whether {} and {} are of one tree and order is not known"
+    folders.without("sheet.fts", "mixed", "old said")
+    mixed_tree, mixed_sheet, names = (folders.path("mixed", name) for name in (TREE_FILE, SHEET_FILE, "names.txt"))
+    write(mixed_sheet, read(folders.path("new said", SHEET_FILE)))
+    folders.answered("another sheet in the tree's folder", "mixed", "mixed", wrong, unknown.format(
+        OTHERS.format(names=names, file=mixed_sheet), mixed_sheet, mixed_tree))
+    old_sheet = folders.path("old said", SHEET_FILE)
+    folders.without("names.txt", "damaged", "old said")
+    damaged_tree, damaged = folders.path("damaged", TREE_FILE), folders.path("damaged", "names.txt")
+    for name, data, why in ("no names file", b"hello\n", NO_NAMES), ("others' names", ROAD_NAMES, OTHERS):
+        write(damaged, data)
+        folders.answered(f"{name} beside the tree", "damaged", "old said", two_levels(5), unknown.format(
+            why.format(names=damaged, file=damaged_tree), damaged_tree, old_sheet))
+        folders.answered(f"{name} beside both", "damaged", "damaged", two_levels(5))
+    folders.without("names.txt", "edited", "old said")
+    edited, text = folders.path("edited", "names.txt"), read(folders.path("old said", "names.txt"))
+    write(edited, text.replace(b" G\n", b" both pumps\n"))
+    folders.answered("a gate's name edited", "edited", "may said", two_levels(5, 505000000))
+    write(edited, text.replace(b" b\n", b" pump b\n"))
+    folders.pair_apart("an event's name edited", "edited", "may said", "event 1", '"pump b"', '"b"')
+
+
+def books_apart(folders):
+    """A book has no number: its names alone tell that it is of another order."""
+    for folder, rows, words in (("planned", T_ROWS, []), ("planned sorted", T_SORTED, []),
+                                ("planned fewer", "{a},0.1\n{c},0.9\n", ["--number", "5"])):
+        tree_text = T_TREE if "{b}" in rows else T_TREE.replace(' "{b}"', "")
+        folders.write(folder, (tree_text, rows, T_BOOK), *words)
+    tree_file, sheet_file = folders.path("old", TREE_FILE), folders.path("old", SHEET_FILE)
+
+    def ways(book):
+        at = ["--windows", book, "--hour", "5"]
+        return {"levels": ["levels", *at, tree_file, sheet_file, "1"],
+                "levels --csv": ["levels", *at, tree_file, sheet_file, "1", "--csv"],
+                "plot": ["plot", *at, tree_file, sheet_file, "1", "-o", folders.svg],
+                "check": ["check", tree_file, sheet_file, book], "check, no sheet": ["check", book, tree_file]}
+
+    ran = folders.copy.run(*ways(folders.path("planned", BOOK_FILE))["levels"])
+    said("a book of the tree", ran, 0, out=two_levels(13094, UNIT))
+    for folder, thing, first, second in (("planned sorted", "event 0", '"a"', '"c"'),
+                                         ("planned fewer", "event 1", '"b"', '"c"')):
+        book, old, new = (folders.path(*names) for names in (
+            (folder, BOOK_FILE), ("old", "names.txt"), (folder, "names.txt")))
+        folders.apart(f"a book of the folder {folder}", tree_file, book,
+                      f"{thing} is {first} by {old} and {second} by {new}", ways(book))
+    book = write(folders.path("loose", BOOK_FILE), read(folders.path("planned sorted", BOOK_FILE)))
+    said("a book without names", folders.copy.run("check", tree_file, book), 0, out=(
+        f'{tree_file}: tree 13094, 5 nodes: 3 basic events, 1 AND, 1 OR; the top event is "T"\n'
+        f"{book}: a book of 1 work window, from hour 5 to hour 6\n"))
+    book = write(folders.path("old", BOOK_FILE), read(book))
+    line = (f"{OTHERS.format(names=folders.path('old', 'names.txt'), file=book)}: "
+            f"whether {book} and {tree_file} are of one tree and order is not known")
+    # It has a for c: 1 - 0.9 × 0.1.
+    ran = folders.copy.run(*ways(book)["levels"])
+    said("another book in the tree's folder", ran, 0, line, out=two_levels(13094, 910000000))
+    os.remove(book)
+
+
+def mirrors_together(folders):
+    """Both files of a mirror are a pair, wherever they lie; one of them with a file of the pair is told of."""
+    once = folders.path("old said", "works.ftf"), folders.path("old said", "works.fts")
+    copy, names = folders.copy, folders.path("old said", "names.txt")
+    ran = copy.run("mirror", folders.path("old said", TREE_FILE), folders.path("old said", SHEET_FILE), *once)
+    hold("a mirror beside its names", ran.status == 0 and ran.errors == "", ran)
+    said("a mirror beside its names, asked", copy.run(*once, "1"), 0, out=two_levels(5, 99000000))
+    sheet_file = folders.path("old said", SHEET_FILE)
+    ran = copy.run(once[0], sheet_file, "1")
+    hold("a mirrored tree with the sheet of the pair", ran.status == 0 and ran.lines == [
+        f"nekbrod: {OTHERS.format(names=names, file=once[0])}: whether {once[0]} and {sheet_file} are of one tree and "
+        "order is not known"], ran)
+
+
+def together(work, copy):
+    folders = Folders(copy, work)
+    of_another_order(folders)
+    folders.asked_by = "levels", "check"
+    of_another_system(folders)
+    alike_in_bytes(folders)
+    of_one_tree(folders)
+    books_apart(folders)
+    mirrors_together(folders)
+    pair = folders.path("old said", TREE_FILE), folders.path("new said", SHEET_FILE)
+    ran = on_terminal(copy, "levels", *pair, "1", stream="stdout")
+    hold("a terminal, a sorted sheet", ran.status == 5 and ran.out == b"" and len(ran.lines) == 1, ran)
+
+
+AT_MOST = "the true probability is at most the upper end, and may lie below the lower one"
+AT_LEAST = "the true probability is at least the lower end, and may lie above the upper one"
+ONLY = "only and and or have a place in a tree file: "
+
+
+def bounds(writing):
+    """What is said of a gate in place of one that a tree file has no place for, and that it is so.
+
+    Of three pumps of 0.1 each two or more fail with 3 × 0.01 × 0.9 + 0.001; two such pumps fail in one order with half
+    of 0.01."""
+    for kind, pumps, true, others in (
+            ("2of3", 3, 28000000, {"or": "at most", "and": "at least"}), ("pand", 2, 5000000, {"and": "at most"})):
+        rows = writing.text("sheet.csv", "".join(f"pump {i},0.1\n" for i in range(pumps)))
+        inputs = " ".join(f'"pump {i}"' for i in range(pumps))
+        text = writing.text("tree.dft", f'toplevel "no water";\n"no water" {kind} {inputs};\n')
+        advice = (f"with or in its place {AT_MOST}; with and {AT_LEAST}" if kind == "2of3" else
+                  f"with and in its place, which leaves the order out, {AT_MOST}")
+        writing.refused(f"bounds, {kind}", writing.new(text, rows), 1, f"{text}, line 2, column 12: "
+                        f'the gate "no water" is of the kind {kind}; {ONLY}{advice}')
+        for other, bound in others.items():
+            text = writing.text("tree.dft", f'toplevel "no water";\n"no water" {other} {inputs};\n')
+            hold(f"bounds, {other} for {kind}: written", writing.new(text, rows).status == 0)
+            ran = writing.copy.run(*(os.path.join(writing.out, file) for file in ("tree.ftf", "sheet.fts")), "1")
+            lower, upper = (int(ran.out.split()[place]) for place in (7, 9))
+            # It lies on one side of both ends.
+            right = true < lower <= upper if bound == "at most" else lower <= upper < true
+            hold(f"bounds, {other} for {kind}: {bound}", right, ran)
+
+
 def writes(work, copy, seed):
     shipped_texts(work, Copy(work, "bare copy", built=False))
     writing = Writing(copy, work, "writes")
@@ -1487,6 +1826,7 @@ def answers(work, copy):
     tables(writing)
     named_sets(writing)
     mirror_beside(writing)
+    bounds(writing)
 
 
 def main(words):
@@ -1508,6 +1848,7 @@ def main(words):
         shows(work, copy, seed)
         checks(work, copy)
         answers(work, copy)
+        together(work, copy)
     return finish("words.py")
 
 

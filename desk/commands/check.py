@@ -4,6 +4,7 @@ import collections
 from desk.asked import LoneBook, LoneFile, Pair, printed_text, read_file
 from desk.build import HOUR_LEVELS, LEVELS, up_to_date
 from desk.child import Signals
+from desk.commands.together import check_together
 from desk.commands.told import names_for
 from desk.refusal import explain
 from desk.screen import Stop, print_text
@@ -41,7 +42,11 @@ def check(home, words):
     lines = [sentence or f"{file.name}: {holds(file)}" for file, sentence in in_order(files, told)]
     lines += [sentence for sentence in refused[len(files):] if sentence]
     print_text("".join(line + "\n" for line in lines).encode("utf-8", "surrogateescape"))
-    return 1 if any(refused) else 0
+    if any(refused):
+        return 1
+    if len(trees) == 1:
+        check_together([*trees, *(sheets if len(sheets) == 1 else []), *books])
+    return 0
 
 
 def in_order(files, told):

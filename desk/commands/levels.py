@@ -5,6 +5,7 @@ import sys
 from desk.asked import HourPair, Pair, printed_text
 from desk.build import HOUR_LEVELS, LEVELS, up_to_date
 from desk.child import Signals
+from desk.commands.together import check_together
 from desk.commands.told import names_for, refused
 from desk.screen import Stop, is_terminal, print_text
 from desk.shown.holdings import counted
@@ -25,6 +26,7 @@ def levels(home, words):
     if not text.startswith(b"tree "):
         print_text(text)
         return refused(home, asked, text)
+    check_together(asked.files())
     if as_csv:
         text = levels_csv(read_answer(text, asked)).encode()
     elif is_terminal(sys.stdout):

@@ -2,6 +2,7 @@
 from desk.asked import TwoFiles, mirrored
 from desk.build import MIRROR, up_to_date
 from desk.child import Signals
+from desk.commands.together import check_together
 from desk.commands.told import refused
 from desk.new_files import check_apart, check_new, write_all
 from desk.screen import Stop, print_text
@@ -22,6 +23,7 @@ def mirror(home, words):
             text, files = mirrored(MIRROR.title, program, pair, signals)
         signals.check()
         if files:
+            check_together(pair.files())
             lines = [f"wrote {name}: the {what}, {how}" for name, (what, how) in zip(names, MIRRORED.items())]
             return write_all(zip(MIRRORED, names, files), lines, signals)
     print_text(text)

@@ -2,6 +2,7 @@
 from desk.asked import LevelPair, printed_text
 from desk.build import NODES, up_to_date
 from desk.child import Signals
+from desk.commands.together import check_together
 from desk.commands.told import names_for, refused
 from desk.screen import Stop, print_text
 from desk.shown.printed import read_nodes
@@ -25,6 +26,7 @@ def nodes(home, words):
     if not text.startswith(b"tree "):
         print_text(text)
         return refused(home, asked, text)
+    check_together(asked.files())
     printed, tree = read_nodes(text), held_tree(asked.tree)
     if (printed.number, printed.k, printed.n, len(printed.ends)) != (tree.number, *asked.level, len(tree.nodes)):
         raise Stop(3, f"{NODES.title} answered another question")

@@ -1,6 +1,7 @@
 # The top event's fuzzy number as a picture.
 from desk.child import Signals
 from desk.commands.levels import HOUR_OPTIONS, answer, pair_at, read_answer, title_of
+from desk.commands.together import check_together
 from desk.commands.told import refused
 from desk.new_files import check_new, write_all
 from desk.screen import Stop, print_text
@@ -21,6 +22,7 @@ def plot(home, words):
     if not text.startswith(b"tree "):
         print_text(text)
         return refused(home, asked, text)
+    check_together(asked.files())
     levels = read_answer(text, asked)
     drawn = picture(levels, title_of(asked)).encode()
     with Signals() as signals:

@@ -3,7 +3,7 @@ from desk.asked import LoneBook, LoneFile
 from desk.build import HOUR_LEVELS, LEVELS
 from desk.child import Signals
 from desk.commands.check import BOOK, SHEET, TREE, given, refusals
-from desk.commands.told import names_for
+from desk.commands.told import WORDS, names_for
 from desk.screen import Stop, print_text, say
 from desk.text.book import book_text, held_book
 from desk.text.fault_tree import EVENT, MOST_INPUTS, OR, FaultTree, Node, held_tree
@@ -11,9 +11,6 @@ from desk.text.galileo import galileo_text
 from desk.text.open_psa import open_psa_text
 from desk.text.sheet import Expert, held_sheet, sheet_text
 from desk.words import options_apart
-
-# The words of the names file for each kind of file.
-WORDS = {TREE: "tree", SHEET: "sheet", BOOK: "book"}
 
 # No accepted tree has more basic events.
 MOST_EVENTS = 960

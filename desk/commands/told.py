@@ -4,6 +4,9 @@ from desk.screen import say
 from desk.shown.holdings import counted
 from desk.text.names import names_beside
 
+# The words of the names file for each kind of file.
+WORDS = {"tree file": "tree", "opinion sheet": "sheet", "book": "book"}
+
 # Of more faults than these the number is told.
 MOST_FAULTS = 20
 

@@ -25,9 +25,6 @@ FILES = {"tree": ("tree file", "tree.ftf"), "sheet": ("opinion sheet", "sheet.ft
 # A text of the largest tree or sheet is far shorter, unless its names are very long.
 LONGEST_TEXT = 1 << 20
 
-# The tree's number where nothing says another.
-USUAL_NUMBER = 1
-
 
 def write(_, words):
     names, given = options_apart("write", words, OPTIONS)
@@ -62,12 +59,11 @@ def made_of(names, number, by_rows):
     readers = (read_tree_text, "tree's text"), (read_sheet, "spreadsheet"), (read_book, "book's spreadsheet")
     tree_text, sheet_text, *books = read_all([
         (reader, name, read_file(what, name, LONGEST_TEXT)) for (reader, what), name in zip(readers, names)])
-    if number is None:
-        number = USUAL_NUMBER if tree_text.number is None else tree_text.number
-    tree, entries = joined(tree_text, sheet_text, number, by_rows)
+    said = tree_text.number if number is None else number
+    tree, entries = joined(tree_text, sheet_text, said, by_rows)
     scores = [expert.score for expert in sheet_text.experts]
-    data = {"tree": tree.data(), "sheet": sheet_data(number, scores, entries)}
-    lines = [tree_holds(tree), sheet_holds(number, scores, entries)]
+    data = {"tree": tree.data(), "sheet": sheet_data(tree.number, scores, entries)}
+    lines = [tree_holds(tree), sheet_holds(tree.number, scores, entries)]
     for windows in books:
         faults = unknown_events(windows, names[2], tree_text, tree.events())
         if faults:

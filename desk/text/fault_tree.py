@@ -4,12 +4,21 @@ import collections
 import re
 import struct
 import unicodedata
+import zlib
 
 from desk.text.faults import Fault, Faulty
 
 # The kinds of a node, as the tree file has them.
 EVENT, AND, OR = 0, 1, 2
 MOST_NODES, MOST_INPUTS, LARGEST_NUMBER = 1024, 16, 65535
+# The least tree number that comes from the tree itself: 0 is that of a file which stands in for another, and 1 is what
+# people write themselves.
+LEAST_OWN_NUMBER = 2
+
+# What holds of an interval where a gate that is more likely to fail than the one that is meant stands in its place, and
+# where one that is less likely to does.
+UPPER_HOLDS = "the true probability is at most the upper end, and may lie below the lower one"
+LOWER_HOLDS = "the true probability is at least the lower end, and may lie above the upper one"
 
 # A name where a text has it.
 Mention = collections.namedtuple("Mention", "name place")
@@ -39,6 +48,12 @@ class FaultTree(collections.namedtuple("FaultTree", "number nodes")):
         header = b"FTF" + struct.pack("<HHH", 1, self.number, len(self.nodes))
         return header + b"".join(records) + struct.pack(f"<{len(links)}H", *links)
 
+    def own_number(self):
+        """The number that comes from the tree itself: its gates, its events' names in their order, its top's name."""
+        names = [*self.events(), self.nodes[-1].name]
+        data = self._replace(number=0).data() + "".join(f"{name}\n" for name in names).encode()
+        return LEAST_OWN_NUMBER + zlib.crc32(data) % (LARGEST_NUMBER + 1 - LEAST_OWN_NUMBER)
+
 
 def held_tree(data, names=None):
     """The tree of the bytes of an accepted file; a name for each node, or the default names."""
@@ -66,6 +81,20 @@ def tree_number(word):
     if not re.fullmatch("[0-9]+", word) or len(digits) > len(str(LARGEST_NUMBER)) or int(digits) > LARGEST_NUMBER:
         return None
     return int(digits)
+
+
+def vote_remedy(least, inputs, or_gate, and_gate):
+    """What can be done about a gate that fails if at least so many of its inputs do; `least` is the text of a number.
+
+    It is '' where no such gate has these inputs."""
+    least = least.lstrip("0")
+    if not re.fullmatch("[0-9]+", least) or (len(least), least) > (len(str(inputs)), str(inputs)):
+        return ""
+    if least == "1":
+        return f"write {or_gate}"
+    if least == str(inputs):
+        return f"write {and_gate}"
+    return f"with {or_gate} in its place {UPPER_HOLDS}; with {and_gate} {LOWER_HOLDS}"
 
 
 def unfit_at(text):
@@ -105,7 +134,9 @@ def first_mentions(text):
 
 
 def arranged(text, number, rows=()):
-    """The tree that a text states; its basic events without a statement stand in the order of the rows' names."""
+    """The tree that a text states, with its own number where none is given.
+
+    Its basic events without a statement stand in the order of the rows' names."""
     faults = [*statement_faults(text), *sharing_faults(text), *link_faults(text), *count_faults(text)]
     if faults:
         raise Faulty(*sorted(faults, key=by_place))
@@ -116,7 +147,8 @@ def arranged(text, number, rows=()):
     for name in order:
         kind, inputs = (statements[name].kind, statements[name].inputs) if name in statements else (EVENT, ())
         nodes.append(Node(name, kind, tuple(numbers[mention.name] for mention in inputs)))
-    return FaultTree(number, tuple(nodes))
+    tree = FaultTree(number, tuple(nodes))
+    return tree._replace(number=tree.own_number()) if number is None else tree
 
 
 def node_order(text, statements, rows):

@@ -68,7 +68,7 @@ def decimal_figure(text, whole, decimals, sign, exponent):
         raise NoFigure(f"{shown(text)} is above 1", RANGE)
     if places > UNIT_DIGITS:
         raise NoFigure(f"{shown(text)} has {places} digits after the point, and a sheet holds {UNIT_DIGITS}",
-                       "shorten it yourself on the safe side, or write it as a fraction")
+                       "write it as a fraction, or shorten it yourself: a low figure down, a high one up")
     billionths = int(digits) * 10 ** (UNIT_DIGITS - places)
     common = math.gcd(billionths, UNIT)
     return Figure(billionths // common, UNIT // common, False)

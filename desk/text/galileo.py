@@ -4,8 +4,8 @@ import collections
 import re
 
 from desk.text.fault_tree import (
-    AND, EVENT, LARGEST_NUMBER, OR, Mention, Statement, TreeText, by_place, character_in_words, in_single_spaces,
-    place_in_words, tree_number, unfit_at)
+    AND, EVENT, LARGEST_NUMBER, OR, UPPER_HOLDS, Mention, Statement, TreeText, by_place, character_in_words,
+    in_single_spaces, place_in_words, tree_number, unfit_at, vote_remedy)
 from desk.text.faults import Fault, Faulty, Place
 from desk.text.lines import Lines
 
@@ -39,11 +39,14 @@ def read_galileo(file, text):
 
 
 def galileo_text(tree):
-    """The text that states a tree: read again, with its basic events as rows, it gives the same file."""
+    """The text that states a tree: read again, with its basic events as rows, it gives the same file.
+
+    A number of the tree's own is left out, so that it does not outlive a change of the text or of the rows."""
     kinds = [node.kind for node in tree.nodes]
     names = [f'"{node.name}"' for node in tree.nodes]
     events_first = EVENT not in kinds[len(tree.events()):]
-    lines = [f"// nekbrod: tree number {tree.number}", f"toplevel {names[-1]};"]
+    lines = [] if tree.number == tree.own_number() else [f"// nekbrod: tree number {tree.number}"]
+    lines.append(f"toplevel {names[-1]};")
     for name, node in zip(names, tree.nodes):
         if node.kind != EVENT:
             inputs = " ".join(names[i] for i in node.inputs)
@@ -215,11 +218,9 @@ def other_kind(kind, inputs):
     votes = VOTES.fullmatch(kind)
     if votes:
         least, total = (votes.group(1) or votes.group(3)).lstrip("0"), (votes.group(2) or str(inputs)).lstrip("0")
-        if least == "1":
-            return f"{ONLY}: write or"
-        if least == total == str(inputs):
-            return f"{ONLY}: write and"
-        return f"{ONLY}: or in its place is on the safe side, since it fails no later" if least else ONLY
+        # A vote of more or fewer inputs than are named is a mistake.
+        remedy = vote_remedy(least, inputs, "or", "and") if total == str(inputs) or least == "1" else ""
+        return f"{ONLY}: {remedy}" if remedy else ONLY
     if kind.startswith("pand"):
-        return f"{ONLY}: and in its place is on the safe side, since it leaves the order out"
+        return f"{ONLY}: with and in its place, which leaves the order out, {UPPER_HOLDS}"
     return ONLY

@@ -11,6 +11,7 @@ NAMES_FILE = "names.txt"
 FIRST_LINE = "nekbrod names"
 WORDS = ("tree", "sheet", "book")
 KINDS = {0: "event", 1: "and", 2: "or"}
+KINDS_SHOWN = {"event": "a basic event", "and": "an AND", "or": "an OR"}
 # No names file is longer: 1,040 names of the longest text that a line may have.
 LONGEST = 1 << 24
 
@@ -25,6 +26,12 @@ class Names(collections.namedtuple("Names", "sums nodes experts")):
 
     def events(self):
         return [node.name for node in self.nodes if node.kind == KINDS[0]]
+
+    def identity(self):
+        """What names of one tree in one order have alike; of a gate its kind, and its name where it is the top."""
+        return {"the top event": f'"{self.nodes[-1].name}"',
+                **{f"event {i}": f'"{name}"' for i, name in enumerate(self.events())},
+                **{f"node {i}": KINDS_SHOWN[node.kind] for i, node in enumerate(self.nodes)}}
 
     def fit(self, what, data):
         """Whether they are for a tree, a sheet or a book with these bytes: each node and expert has one."""
@@ -87,9 +94,24 @@ def are_names(texts, more=""):
         unfit_at(text.replace(more, "")) is None and in_single_spaces(text) == text for text in texts)
 
 
+def difference(names, others):
+    """The first thing that the trees of two names differ in, and what each has there; or None."""
+    ours, theirs = names.identity(), others.identity()
+    for thing in {**ours, **theirs}:
+        both = ours.get(thing, "not there"), theirs.get(thing, "not there")
+        if both[0] != both[1]:
+            return (thing, *both)
+    return None
+
+
+def names_path(name):
+    """Where the names for a file lie."""
+    return os.path.join(os.path.dirname(name), NAMES_FILE)
+
+
 def names_beside(what, name, data):
     """The names for a file, a tree, a sheet or a book, or None; and why there are none, where a names file is there."""
-    path = os.path.join(os.path.dirname(name), NAMES_FILE)
+    path = names_path(name)
     if os.path.exists(path) and not os.path.isfile(path):
         return None, f"{path} is not a file"
     try:

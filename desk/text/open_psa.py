@@ -7,7 +7,7 @@ from xml.parsers import expat
 
 from desk.text.fault_tree import (
     AND, EVENT, LARGEST_NUMBER, OR, Mention, Statement, TreeText, by_place, character_in_words, circle_faults,
-    default_names, in_single_spaces, place_in_words, tree_number, unfit_at)
+    default_names, in_single_spaces, place_in_words, tree_number, unfit_at, vote_remedy)
 from desk.text.faults import Fault, Faulty, Place
 
 KINDS = {"and": AND, "or": OR}
@@ -325,12 +325,8 @@ def remedy_of(child, parent):
         return f"{MOVE}, and leave {parent} empty, or nothing here"
     if child.tag != "atleast":
         return REMEDIES.get(child.tag, "it has no place there: take it out")
-    least = child.attributes.get("min", "").strip().lstrip("0")
-    if least == "1":
-        return f"{ONLY}: write <or>"
-    if least == str(len(child.children)):
-        return f"{ONLY}: write <and>"
-    return f"{ONLY}: <or> in its place is on the safe side, since it fails no later" if least.isdigit() else ONLY
+    remedy = vote_remedy(child.attributes.get("min", "").strip(), len(child.children), "<or>", "<and>")
+    return f"{ONLY}: {remedy}" if remedy else ONLY
 
 
 def open_psa_text(tree, probabilities=None):
