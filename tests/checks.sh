@@ -15,7 +15,6 @@ reference=$root/reference/target/release/reference
 needs() { # PROGRAM COMMAND
     [ -x "$1" ] || { echo "$1 is not built: $2"; exit 2; }
 }
-needs "$levels" tests/build.sh
 needs "$reference" "cargo build --release --offline --manifest-path reference/Cargo.toml"
 
 work=$(mktemp -d) || exit 2

@@ -6,6 +6,7 @@
 
 in=$work/input
 hour_levels=$root/crates/hour_levels/out/hour_levels
+needs "$levels" tests/build.sh
 needs "$hour_levels" tests/build.sh
 node_lines=$root/crates/node_lines/out/node_lines
 needs "$node_lines" tests/build.sh

@@ -4,7 +4,6 @@
 # shellcheck source-path=SCRIPTDIR
 . "$(dirname "$0")/checks.sh"
 
-vectors=$root/crates/vectors
 level_cases=$root/crates/level_cases
 mirror_vectors=$root/crates/mirror_vectors
 
@@ -25,8 +24,14 @@ stored() { # FILE COMMAND...
     hold "$file: as made" cmp "$work/made" "$file"
 }
 
-stored "$vectors/stdin" "$reference" vectors stream </dev/null
-stored "$vectors/stdout" "$reference" vectors text <"$vectors/stdin"
+run "$reference" vectors families
+families=$(cat "$work/out")
+hold "a program for each family" [ "$(sed -n 's/_vectors: stored_calls$//p' "$root/crates.txt")" = "$families" ]
+for family in $families; do
+    program=$root/crates/${family}_vectors
+    stored "$program/stdin" "$reference" vectors stream "$family" </dev/null
+    stored "$program/stdout" "$reference" vectors text <"$program/stdin"
+done
 stored "$level_cases/stdin" level_inputs </dev/null
 stored "$level_cases/stdout" "$reference" each levels <"$level_cases/stdin"
 stored "$mirror_vectors/stdin" "$reference" mirror-vectors stream </dev/null
