@@ -1,2 +1,3 @@
--- What a hand-in answers, and what it leaves in its store.
+-- What a hand-in answers and leaves in its store, and the largest lengths.
 pub mod HandIn
+pub mod Largest

@@ -2,7 +2,7 @@
 -- beyond the end would read as 0: an input of less than 6 bytes is excluded by the first test of `well_framed`.
 use Rattle.std.specs.Prelude.{ℕ, ◌+◌, Bool, ◌&&◌, List, length, take, drop, leb, eqb}
 use Rattle.fields.specs.Fields.{field16}
-use Rattle.held_files.specs.declared.held.TheConstants.{MOST_TREE, MOST_SHEET}
+use Rattle.held_files.specs.Largest.{most_tree, most_sheet}
 
 -- Byte 0: n, the number of levels.
 abbrev pub level_count : List ℕ → ℕ
@@ -25,8 +25,8 @@ unfoldable pub well_framed : List ℕ → Bool
 well_framed input =
     leb 6 (length input)
     && (eqb (length input) (tree_end input + sheet_length input)
-    && leb (tree_length input) MOST_TREE
-    && leb (sheet_length input) MOST_SHEET)
+    && leb (tree_length input) most_tree
+    && leb (sheet_length input) most_sheet)
 
 -- The tree's bytes.
 abbrev pub tree_bytes : List ℕ → List ℕ

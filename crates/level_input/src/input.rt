@@ -1,6 +1,6 @@
 // The fields of the printer's input, and the two files that follow them.
 ghost use Rattle.std.specs.Prelude.{◌≡◌, ◌+◌, ◌<◌, ◌≤◌, length, is_some, IfSome};
-ghost use Rattle.held_files.specs.declared.held.TheConstants.{MOST_TREE, MOST_SHEET};
+ghost use Rattle.held_files.specs.Largest.{most_tree, most_sheet};
 ghost use Rattle.level_input.specs.Input.{level_count, sheet_bytes, tree_bytes, well_framed};
 
 use fields::fields::field16_at;
@@ -21,8 +21,8 @@ pub struct Files<'a> {
     pub n: u32,
     pub tree: &'a [u8],
     pub sheet: &'a [u8],
-    pub ghost tree_fits: { length tree.now ≤ MOST_TREE },
-    pub ghost sheet_fits: { length sheet.now ≤ MOST_SHEET },
+    pub ghost tree_fits: { length tree.now ≤ most_tree },
+    pub ghost sheet_fits: { length sheet.now ≤ most_sheet },
 }
 
 // The length that both files' lengths require, in a width where their sum does not wrap.
