@@ -19,10 +19,14 @@ pub fn judge_entry(file: &[u8], event: usize) -> Result<(), Refusal>
     ensures { result ≡ entry_fault billion file.now event }
 {
     let place = EntryPlace::of_event(file, event);
-    match place.kind() {
-        Ok(EntryKind::Numbers) => judge_numbers(place),
+    let kind = place.kind();
+    // Four numbers by a test of their own, before the others: one match for all takes three jumps to come to them.
+    if let Ok(EntryKind::Numbers) = kind {
+        return judge_numbers(place);
+    }
+    match kind {
         Ok(EntryKind::Opinions) => judge_opinions(place),
-        Ok(EntryKind::Fractions) => judge_fractions(place),
+        Ok(_) => judge_fractions(place),
         Err(rule) => Err(rule.at(place.at)),
     }
 }
