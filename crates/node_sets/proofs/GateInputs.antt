@@ -28,7 +28,7 @@ module _ (c : CountedGate) {k : GateKind} (o : c.gate.kind ≡ k) where
   -- its sets are made of those of its inputs
   pub own_sets : sets_of n ≡ gate_family (kind_as k) (gate_inputs n.tree.now.file.now g)
   own_sets =
-      gate_sets n.countable.small c.read
+      gate_sets n.countable.small.well_formed n.countable.small.inside c.read
       ∙ ap (λ (x : GateKind). gate_family (kind_as x) (gate_inputs n.tree.now.file.now g)) o
 
   -- its links are few
@@ -43,7 +43,7 @@ module _ (c : CountedGate) {k : GateKind} (o : c.gate.kind ≡ k) where
 
     -- that node's rank is lower
     pub its_rank : rank m.tree.now.file.now m.node < rank n.tree.now.file.now n.node
-    its_rank = rw e.named (input_lower n.countable.small j (gate_owns n.countable.small c.read j h))
+    its_rank = rw e.named (input_lower n.countable.small.well_formed n.countable.small.inside j (gate_owns n.countable.small.well_formed n.countable.small.inside c.read j h))
 
     -- the sets of the inputs of the links before link j, and of that node
     pub last_sets : sets_between n.tree.now.file.now g.first (j + 1)

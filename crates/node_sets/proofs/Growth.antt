@@ -58,4 +58,4 @@ module _ (k : GateKind) (tree : List ℕ) (first : ℕ) where
 pub part_fits : {tree : List ℕ} {i : ℕ} (s : Small tree i) {g : GateNode} → read_node tree i ≡ Gate g → (j : ℕ)
     → g.first ≤ j → j ≤ links_end g → (part_of (kind_as g.kind) tree g.first j).count ≤ (node_sets tree i).count
 part_fits {tree} s {g} q j l m =
-    rw (gate_sets s q) (part_at_most (kind_as g.kind) tree g.first j (links_end g) l m)
+    rw (gate_sets s.well_formed s.inside q) (part_at_most (kind_as g.kind) tree g.first j (links_end g) l m)

@@ -7,6 +7,7 @@ pub mod Links
 pub mod LinkedSets
 pub mod ChoiceTurn
 pub mod Families
+pub mod GateCounts
 pub mod Growth
 pub mod CountTurn
 pub mod GateInputs

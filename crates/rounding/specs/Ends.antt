@@ -1,5 +1,5 @@
 -- The code's directions and ends as the theory's. The unit U is a parameter.
-use Rattle.std.specs.Prelude.{ℕ, ◌≤◌}
+use Rattle.std.specs.Prelude.{ℕ, ◌≤◌, Bool, true, false}
 use Rattle.theory.specs.Rounding.{Direction, down, up, End}
 use Rattle.rounding.specs.declared.direction.Direction.{Direction as CodeDirection}
 use Rattle.rounding.specs.declared.direction.Direction.TheVariants as code
@@ -10,6 +10,11 @@ use Rattle.rounding.specs.declared.end.Enclosure.{Enclosure}
 abbrev pub way : CodeDirection → Direction
 way code.Down = down
 way code.Up = up
+
+-- whether a direction is up
+abbrev pub upward : Direction → Bool
+upward down = false
+upward up = true
 
 -- the same value and mark as the theory's end
 abbrev pub as_theory : CodeEnd → End

@@ -12,7 +12,7 @@ CountedNode::set-event_alone-requires t c = event_few c.args.self.countable.smal
 
 pub CountedNode::set-returns-in-Event : goal.CountedNode::set-returns-in-Event
 CountedNode::set-returns-in-Event t c =
-    rw (c.event_alone.ensures, event_sets c.args.self.countable.small (sym c.node_at.ensures ∙ c.in-Event.is))
+    rw (c.event_alone.ensures, event_sets c.args.self.countable.small.well_formed c.args.self.countable.small.inside (sym c.node_at.ensures ∙ c.in-Event.is))
     (members_one c.in-Event.event)
 
 pub CountedGate::union-overflow_add-j-end : goal.CountedGate::union-overflow_add-j-end

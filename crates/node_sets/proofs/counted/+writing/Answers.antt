@@ -14,7 +14,7 @@ CountedNode::write_sets-event_alone-requires t c = event_few c.args.self.countab
 pub CountedNode::write_sets-returns-in-Event : goal.CountedNode::write_sets-returns-in-Event
 CountedNode::write_sets-returns-in-Event t c =
     let some = some_sets c.args.self in
-    rw (event_sets c.args.self.countable.small (sym c.node_at.ensures ∙ c.in-Event.is), c.event_alone.ensures)
+    rw (event_sets c.args.self.countable.small.well_formed c.args.self.countable.small.inside (sym c.node_at.ensures ∙ c.in-Event.is), c.event_alone.ensures)
     (single_written c.args.sets.now _ refl (members_one c.in-Event.event) (omega arith))
 
 pub CountedGate::write_alternatives-overflow_add-j-end : goal.CountedGate::write_alternatives-overflow_add-j-end

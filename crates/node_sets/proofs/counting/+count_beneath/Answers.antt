@@ -16,14 +16,14 @@ overflow_add-j-end t c = omega (arith, links_few c.requires.small (sym c.node_at
 pub input_at-requires : goal.input_at-requires
 input_at-requires t c =
     let gate = sym c.node_at.ensures ∙ c.in-Gate.is in
-    let owns = gate_owns c.requires.small gate c.loop-j.j (c.loop-j.auto.j, c.loop-j-test.true) in
+    let owns = gate_owns c.requires.small.well_formed c.requires.small.inside gate c.loop-j.j (c.loop-j.auto.j, c.loop-j-test.true) in
     (c.requires.small.well_formed, link_inside c.requires.small _ owns)
 
 pub count_beneath-count-requires : goal.count_beneath-count-requires
 count_beneath-count-requires t c =
     let gate = sym c.node_at.ensures ∙ c.in-Gate.is in
-    let owns = gate_owns c.requires.small gate c.loop-j.j (c.loop-j.auto.j, c.loop-j-test.true) in (
-      omega (arith, rw (← c.input_at.ensures.value) at (input_lower c.requires.small _ owns)),
+    let owns = gate_owns c.requires.small.well_formed c.requires.small.inside gate c.loop-j.j (c.loop-j.auto.j, c.loop-j-test.true) in (
+      omega (arith, rw (← c.input_at.ensures.value) at (input_lower c.requires.small.well_formed c.requires.small.inside _ owns)),
       record {
         small = rw c.input_at.ensures.value (input_small c.requires.small _ owns);
         long = rw c.loop-j.auto.counts c.requires.long;
@@ -55,18 +55,18 @@ returns t c =
     elim c.match-node_at.branch [
       | in-Event w ↦
           let event = sym c.node_at.ensures ∙ w.in-Event.is in
-          let own = w.count-is ∙ sym (ap (λ (f : Family). f.count) (event_sets c.requires.small event)) in
+          let own = w.count-is ∙ sym (ap (λ (f : Family). f.count) (event_sets c.requires.small.well_formed c.requires.small.inside event)) in
           record {
             value = own;
             counted_beneath = counted _ c.requires c.match-node_at.auto.counts
-                (λ j o. absurd (event_owns c.requires.small event j o)) (λ m h. rw w.counts-is h) _ own;
+                (λ j o. absurd (event_owns _ _ _ j event o)) (λ m h. rw w.counts-is h) _ own;
           }
       | in-Gate+else-loop-j-test w ↦
           let gate = sym c.node_at.ensures ∙ w.in-Gate.is in
           let end : w.loop-j.j ≡ links_end w.in-Gate.gate = omega arith in
           let whole = rw end at w.loop-j.invariant.total_is in
-          let own = w.count-is ∙ whole ∙ sym (ap (λ (f : Family). f.count) (gate_sets c.requires.small gate)) in
-          let owned = gate_owned c.requires.small gate in
+          let own = w.count-is ∙ whole ∙ sym (ap (λ (f : Family). f.count) (gate_sets c.requires.small.well_formed c.requires.small.inside gate)) in
+          let owned = gate_owned c.requires.small.well_formed c.requires.small.inside gate in
           record {
             value = own;
             counted_beneath = counted _ c.requires c.match-node_at.auto.counts
