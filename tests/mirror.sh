@@ -146,6 +146,21 @@ longest_files() {
     prints "both lengths at 65,535" input
 }
 
+# A length out of range is answered by the head alone: the writer may be waiting for the answer before it sends more.
+waiting_writer() {
+    mkfifo "$work/open"
+    exec 3<>"$work/open"
+    for lengths in "7176 17434" "7175 17435"; do
+        # shellcheck disable=SC2086
+        set -- $lengths
+        { two_bytes "$1" && two_bytes "$2"; } >&3
+        run timeout 10 "$mirror_files" <"$work/open"
+        hold "lengths $lengths and an open input: status" [ "$status" -eq 0 ]
+        hold "lengths $lengths and an open input: answer" [ "$(cat "$work/out")" = input ]
+    done
+    exec 3>&-
+}
+
 # The last of the limits, 1,024 nodes with 960 events: other bytes of the same lengths, and twice the tree again.
 largest_pair() {
     "$reference" case 1 $(($("$reference" limits) - 1)) limits | tail -c +3 >"$in"
@@ -188,6 +203,7 @@ fractions_and_opinions
 short_inputs
 wrong_sums
 longest_files
+waiting_writer
 largest_pair
 refusals
 finish

@@ -1,5 +1,5 @@
 // What is printed for a tree file.
-use crate::line::Line;
+use crate::line::print_set;
 use cut_sets::count::count_sets;
 use cut_sets::list::list_sets;
 use held_stores::held::Held;
@@ -15,7 +15,7 @@ fn print_sets(rt: &impl Print, held: &Held) -> Result<(), NoAnswer> {
     let reply = list_sets(held.lent_tree(), &mut sets);
     let count = reply.outcome?;
     for set in sets.iter().take(count as usize) {
-        println!(rt; "{}", Line(*set))?;
+        print_set(rt, *set)?;
     }
     Ok(())
 }

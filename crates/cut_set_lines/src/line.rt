@@ -1,19 +1,26 @@
 // The line of a set: the numbers of its events, rising, parted by one space.
-use std::fmt;
+use arrayvec::ArrayVec;
+use std::io;
 
-// The number of a set: its bit i is 1 where event i is in the set.
-#[derive(Drop)]
-pub struct Line(pub u64);
+// 64 numbers of at most two digits, and a byte behind each: no line is longer, so that no push fails.
+const MOST_LINE: usize = 192;
 
-impl fmt::Display for Line {
-    fn fmt<W: fmt::Write>(&self, f: &mut fmt::Formatter<W>) -> fmt::Result {
-        let mut space = "";
-        for event in 0..64u32 {
-            if self.0 >> event & 1 == 1 {
-                write!(f, "{space}{event}")?;
-                space = " ";
-            }
+// Prints the line of a set, whose bit i is 1 where event i is in the set.
+pub fn print_set(rt: &impl Print, set: u64) -> io::Result<()> {
+    let mut line = ArrayVec::<u8, MOST_LINE>::new();
+    let mut rest = set;
+    for turn in 0..set.count_ones() {
+        let event = rest.trailing_zeros() as u8;
+        // The lowest 1 goes: the next turn has the next event.
+        rest &= rest.wrapping_sub(1);
+        if turn > 0 {
+            let _ = line.try_push(b' ');
         }
-        Ok(())
+        if event >= 10 {
+            let _ = line.try_push(b'0' + event / 10);
+        }
+        let _ = line.try_push(b'0' + event % 10);
     }
+    let _ = line.try_push(b'\n');
+    rt.write_all(line.as_slice())
 }

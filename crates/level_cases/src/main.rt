@@ -17,8 +17,10 @@ fn read_input<'a>(rt: &impl Input, room: &'a mut [u8]) -> Result<&'a [u8], Wrong
 fn print_answer(rt: &impl Print, input: &[u8]) -> io::Result<()> {
     let mut text = [0u8; MOST_TEXT];
     if let Ok(length) = print_levels(input, &mut text) {
-        rt.write_all(&(length as u32).to_le_bytes())?;
-        rt.write_all(&text[..length])?;
+        // The text is written also where its length could not be.
+        let length_written = rt.write_all(&(length as u32).to_le_bytes());
+        let text_written = rt.write_all(&text[..length]);
+        return length_written.and(text_written);
     }
     Ok(())
 }

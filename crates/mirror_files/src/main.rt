@@ -15,9 +15,10 @@ fn write_mirror(rt: &impl Print, held: &Held) -> Result<(), NoAnswer> {
     let mut sheet = [0; MOST_SHEET];
     let reply = write_success_tree(held.lent_pair(), &mut tree, &mut sheet);
     reply.outcome?;
-    rt.write_all(&tree[..held.state.tree_len])?;
-    rt.write_all(&sheet[..held.state.sheet_len])?;
-    Ok(())
+    // The sheet is written also where the tree could not be.
+    let tree_written = rt.write_all(&tree[..held.state.tree_len]);
+    let sheet_written = rt.write_all(&sheet[..held.state.sheet_len]);
+    Ok(tree_written.and(sheet_written)?)
 }
 
 // Reads the 16-bit lengths of the tree file and of the opinion sheet, low byte first, then the two files, and writes

@@ -70,6 +70,10 @@ pub fn read_pair(
     ensures held { IfOk result (λ pair. IfOk pair (λ held. HoldsLengths held tree_len sheet_len)) }
     ensures refused { IfOk result (λ pair. IfErr pair (λ refusal. RefusesLengths refusal tree_len sheet_len)) }
 {
+    // A sheet too long is refused before the tree is read: its writer may wait for the answer before it sends a byte.
+    if sheet_len > MOST_SHEET {
+        return Err(WrongInput);
+    }
     let mut tree = [0; MOST_TREE];
     let mut sheet = [0; MOST_SHEET];
     let tree = read_file(rt, tree_len, &mut tree)?;

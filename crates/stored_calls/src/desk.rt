@@ -1,8 +1,7 @@
 // What the calls work on.
-ghost use Rattle.std.specs.Prelude.{◌≡◌};
+ghost use Rattle.std.specs.Prelude.{◌≡◌, take};
 
-use crate::lent::filled;
-use arrayvec::ArrayVec;
+use crate::lent::{Front, filled};
 use held_files::state::State;
 use held_pair::lent::{HeldPair, HeldTree};
 use printed::shown::write_after;
@@ -13,9 +12,9 @@ use std::io;
 #[derive(Drop)]
 pub struct Desk {
     pub state: State,
-    pub tree: ArrayVec<u8, 7200>,
-    pub sheet: ArrayVec<u8, 17500>,
-    pub book: ArrayVec<u8, 2600>,
+    pub tree: Front<u8, 7200>,
+    pub sheet: Front<u8, 17500>,
+    pub book: Front<u8, 2600>,
     pub hour: u32,
     pub buffer: usize,
 }
@@ -36,7 +35,7 @@ impl Desk {
     // What a call on the tree is lent.
     pub fn lent_tree(&self) -> HeldTree<'_>
         ensures state { result.state ≡ self.now.state }
-        ensures tree { result.tree_store.now ≡ self.now.tree.items }
+        ensures tree { result.tree_store.now ≡ take self.now.tree.count self.now.tree.room }
     {
         HeldTree {
             state: self.state,
@@ -47,8 +46,8 @@ impl Desk {
     // What a call on the pair is lent.
     pub fn lent_pair(&self) -> HeldPair<'_>
         ensures state { result.state ≡ self.now.state }
-        ensures tree { result.tree_store.now ≡ self.now.tree.items }
-        ensures sheet { result.sheet_store.now ≡ self.now.sheet.items }
+        ensures tree { result.tree_store.now ≡ take self.now.tree.count self.now.tree.room }
+        ensures sheet { result.sheet_store.now ≡ take self.now.sheet.count self.now.sheet.room }
     {
         HeldPair {
             state: self.state,

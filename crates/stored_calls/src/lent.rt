@@ -2,32 +2,57 @@
 ghost use Rattle.std.specs.Prelude.{◌≡◌, replicate, slice_set, take};
 
 use crate::call::Question;
-use arrayvec::ArrayVec;
 use program_input::read::read_full;
+use std::ops::{DerefSlice, DerefSliceMut};
 use work_slices::slices::WorkSlices;
 
-// So many places with a fill, so that what a call leaves alone is seen.
-pub fn filled<T: Copy + Default, const ROOM: usize>(fill: T, count: usize) -> ArrayVec<T, ROOM>
-    ensures { result.items ≡ take count (replicate ROOM fill) }
-{
-    let mut places = ArrayVec::from([fill; ROOM]);
-    places.truncate(count);
-    places
+// So many places at the front of a room. What lies past them stays, where an `ArrayVec` would blank it.
+#[derive(Drop)]
+pub struct Front<T, const ROOM: usize> {
+    room: [T; ROOM],
+    count: usize,
 }
 
-// Reads a file of that length from standard input.
-pub fn read_file<const ROOM: usize>(rt: &impl Input, length: usize) -> ArrayVec<u8, ROOM> {
-    let mut file = filled(0, length);
-    read_full(rt, &mut file);
-    file
+impl<T, const ROOM: usize> DerefSlice for Front<T, ROOM> {
+    type Elem = T;
+
+    ghost deref_gives = { λ front places. places ≡ take front.count front.room };
+
+    #[tactic(auto, using(std::proofs::lemmas::List::take_min))]
+    fn deref(&self) -> &[T] {
+        let room: &[T] = &self.room;
+        &room[..self.count.min(room.len())]
+    }
+}
+
+impl<T, const ROOM: usize> DerefSliceMut for Front<T, ROOM> {
+    fn deref_mut(&mut self) -> &mut [T] {
+        &mut self.room[..self.count.min(ROOM)]
+    }
+}
+
+// So many places with a fill, so that what a call leaves alone is seen.
+pub fn filled<T: Copy + Default, const ROOM: usize>(fill: T, count: usize) -> Front<T, ROOM>
+    ensures { take result.count result.room ≡ take count (replicate ROOM fill) }
+{
+    Front {
+        room: [fill; ROOM],
+        count,
+    }
+}
+
+// Reads a file of that length from standard input. Where the input ends before it, what was there stays.
+pub fn read_file<const ROOM: usize>(rt: &impl Input, length: usize, file: &mut Front<u8, ROOM>) {
+    file.count = length;
+    read_full(rt, file);
 }
 
 // Sets a store's length. Bytes there stay, and new ones are ee.
-pub fn resize<const ROOM: usize>(store: &mut ArrayVec<u8, ROOM>, length: usize) {
-    store.truncate(length);
-    for _ in store.len()..length.min(ROOM) {
-        let _ = store.try_push(238);
+pub fn resize<const ROOM: usize>(store: &mut Front<u8, ROOM>, length: usize) {
+    for place in store.count..length.min(ROOM) {
+        store.room[place] = 238;
     }
+    store.count = length;
 }
 
 // Puts a byte at a place of a store, if it has one.
@@ -42,9 +67,9 @@ pub fn poke(store: &mut [u8], place: usize, byte: u8)
 // The work slices of a question: three, as the monitor is lent them.
 #[derive(Drop)]
 pub struct Work {
-    pub lower: ArrayVec<u32, 1100>,
-    pub upper: ArrayVec<u32, 1100>,
-    pub marks: ArrayVec<u8, 1100>,
+    pub lower: Front<u32, 1100>,
+    pub upper: Front<u32, 1100>,
+    pub marks: Front<u8, 1100>,
 }
 
 impl Work {

@@ -22,7 +22,7 @@ impl Desk {
             Call::Question(asked) => self.question(rt, asked)?,
             Call::Count => self.count(rt)?,
             Call::CutSets(places) => self.list(rt, places)?,
-            Call::Book(length) => self.book = read_file(rt, length),
+            Call::Book(length) => read_file(rt, length, &mut self.book),
             Call::Hour(hour, buffer) => {
                 self.hour = hour;
                 self.buffer = buffer;
