@@ -3,7 +3,7 @@ use crate::call::{Call, read_call};
 use held_pair::lent::HeldPair;
 use std::io;
 use stored_calls::done::print_done;
-use stored_calls::lent::{Front, filled, read_file};
+use stored_calls::lent::{Front, filled_front, read_front};
 use success_tree::write::write_success_tree;
 
 // No list of calls has a longer store or buffer.
@@ -19,10 +19,10 @@ fn answer(
     tree: &mut Front<u8, TREE_ROOM>,
     sheet: &mut Front<u8, SHEET_ROOM>,
 ) -> io::Result<()> {
-    read_file(rt, call.tree_store, tree);
-    read_file(rt, call.sheet_store, sheet);
-    let mut tree_buffer: Front<u8, TREE_ROOM> = filled(238, call.tree_buffer);
-    let mut sheet_buffer: Front<u8, SHEET_ROOM> = filled(238, call.sheet_buffer);
+    read_front(rt, call.tree_store, tree);
+    read_front(rt, call.sheet_store, sheet);
+    let mut tree_buffer: Front<u8, TREE_ROOM> = filled_front(238, call.tree_buffer);
+    let mut sheet_buffer: Front<u8, SHEET_ROOM> = filled_front(238, call.sheet_buffer);
     let held = HeldPair {
         state: call.state,
         tree_store: tree,
@@ -41,8 +41,8 @@ fn answer(
 // would take what reads and what answers as closures, and be no shorter.
 pub fn run(rt: &(impl Input + Print)) {
     // Where the last call is cut short, what doesn't come is what the call before left.
-    let mut tree = filled(0, 0);
-    let mut sheet = filled(0, 0);
+    let mut tree = filled_front(0, 0);
+    let mut sheet = filled_front(0, 0);
     for _ in 0..100000u64 {
         let Some(call) = read_call(rt) else {
             return;

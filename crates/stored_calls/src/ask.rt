@@ -1,7 +1,7 @@
 // Judging and questioning a level, each with what it prints.
 use crate::call::Question;
 use crate::desk::Desk;
-use crate::lent::{Front, Work, filled};
+use crate::lent::{Front, Work, filled_front};
 use crate::slice::Slice;
 use hour_sheet::hour::BookAtHour;
 use monitor::question::{Report, question};
@@ -47,7 +47,7 @@ impl Desk {
 
     // Questions a level at the desk's hour. The stores, and what was lent, are printed as a checksum each.
     pub fn question_at_hour(&mut self, rt: &impl Print, asked: Question) -> io::Result<()> {
-        let mut buffer: Front<u8, 17500> = filled(238, self.buffer);
+        let mut buffer: Front<u8, 17500> = filled_front(238, self.buffer);
         let mut work = Work::lent(asked);
         let at = BookAtHour {
             book: &self.book,

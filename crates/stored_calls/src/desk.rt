@@ -1,7 +1,7 @@
 // What the calls work on.
 ghost use Rattle.std.specs.Prelude.{◌≡◌, take};
 
-use crate::lent::{Front, filled};
+use crate::lent::{Front, filled_front};
 use held_files::state::State;
 use held_pair::lent::{HeldPair, HeldTree};
 use printed::shown::write_after;
@@ -24,9 +24,9 @@ impl Desk {
     pub fn empty() -> Desk {
         Desk {
             state: State::default(),
-            tree: filled(0, 0),
-            sheet: filled(0, 0),
-            book: filled(0, 0),
+            tree: filled_front(0, 0),
+            sheet: filled_front(0, 0),
+            book: filled_front(0, 0),
             hour: 0,
             buffer: 0,
         }

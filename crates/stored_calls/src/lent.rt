@@ -1,7 +1,9 @@
 // Slices of a length that the list of calls says, in fixed memory: no list has longer ones than there is room for.
-ghost use Rattle.std.specs.Prelude.{◌≡◌, replicate, slice_set, take};
+ghost use Rattle.std.specs.Prelude.{◌≡◌, ◌++◌, min, replicate, slice_set, take};
+ghost use Rattle.arrayvec.specs.ArrayVec.{array_vec_len};
 
 use crate::call::Question;
+use arrayvec::ArrayVec;
 use program_input::read::read_full;
 use std::ops::{DerefSlice, DerefSliceMut};
 use work_slices::slices::WorkSlices;
@@ -31,8 +33,21 @@ impl<T, const ROOM: usize> DerefSliceMut for Front<T, ROOM> {
     }
 }
 
+// The front of a room, with nothing past it.
+fn front_of<T: Copy + Default, const ROOM: usize>(
+    room: [T; ROOM],
+    count: usize,
+) -> ArrayVec<T, ROOM>
+    ensures items { result.items ≡ take count room }
+    ensures len { array_vec_len result ≡ min count ROOM }
+{
+    let mut front = ArrayVec::from(room);
+    front.truncate(count);
+    front
+}
+
 // So many places with a fill, so that what a call leaves alone is seen.
-pub fn filled<T: Copy + Default, const ROOM: usize>(fill: T, count: usize) -> Front<T, ROOM>
+pub fn filled_front<T: Copy + Default, const ROOM: usize>(fill: T, count: usize) -> Front<T, ROOM>
     ensures { take result.count result.room ≡ take count (replicate ROOM fill) }
 {
     Front {
@@ -41,18 +56,49 @@ pub fn filled<T: Copy + Default, const ROOM: usize>(fill: T, count: usize) -> Fr
     }
 }
 
+// The same in an `ArrayVec`.
+pub fn filled<T: Copy + Default, const ROOM: usize>(fill: T, count: usize) -> ArrayVec<T, ROOM>
+    ensures { result.items ≡ take count (replicate ROOM fill) }
+{
+    front_of([fill; ROOM], count)
+}
+
 // Reads a file of that length from standard input. Where the input ends before it, what was there stays.
-pub fn read_file<const ROOM: usize>(rt: &impl Input, length: usize, file: &mut Front<u8, ROOM>) {
+pub fn read_front<const ROOM: usize>(rt: &impl Input, length: usize, file: &mut Front<u8, ROOM>) {
     file.count = length;
     read_full(rt, file);
 }
 
+// The same into an `ArrayVec`. Where the input ends before the file, the rest is 0.
+pub fn read_file<const ROOM: usize>(rt: &impl Input, length: usize) -> ArrayVec<u8, ROOM>
+    ensures { array_vec_len result ≡ min length ROOM }
+{
+    let mut file: Front<u8, ROOM> = filled_front(0, 0);
+    read_front(rt, length, &mut file);
+    front_of(file.room, length)
+}
+
 // Sets a store's length. Bytes there stay, and new ones are ee.
-pub fn resize<const ROOM: usize>(store: &mut Front<u8, ROOM>, length: usize) {
+pub fn resize_front<const ROOM: usize>(store: &mut Front<u8, ROOM>, length: usize)
+    ensures { take store.new.count store.new.room
+        ≡ take (min length ROOM) (take store.old.count store.old.room ++ replicate ROOM 238) }
+{
     for place in store.count..length.min(ROOM) {
         store.room[place] = 238;
     }
     store.count = length;
+}
+
+// The same of an `ArrayVec`.
+pub fn resize<const ROOM: usize>(store: &mut ArrayVec<u8, ROOM>, length: usize)
+    ensures { store.new.items ≡ take (min length ROOM) (store.old.items ++ replicate ROOM 238) }
+{
+    let count = store.len();
+    let mut room = [0; ROOM];
+    room[..count].copy_from_slice(store);
+    let mut front = Front { room, count };
+    resize_front(&mut front, length);
+    *store = front_of(front.room, front.count);
 }
 
 // Puts a byte at a place of a store, if it has one.
@@ -76,9 +122,9 @@ impl Work {
     // Slices as long as a question says.
     pub fn lent(asked: Question) -> Work {
         Work {
-            lower: filled(4000000001, asked.lower),
-            upper: filled(4000000002, asked.upper),
-            marks: filled(238, asked.marks),
+            lower: filled_front(4000000001, asked.lower),
+            upper: filled_front(4000000002, asked.upper),
+            marks: filled_front(238, asked.marks),
         }
     }
 

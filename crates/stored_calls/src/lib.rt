@@ -12,3 +12,5 @@ pub mod lent;
 pub mod run;
 mod sets;
 mod slice;
+#[cfg(test)]
+mod tests;

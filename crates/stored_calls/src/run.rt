@@ -1,7 +1,7 @@
 // The list of calls, one after the other.
 use crate::call::{Call, read_call};
 use crate::desk::Desk;
-use crate::lent::{poke, read_file, resize};
+use crate::lent::{poke, read_front, resize_front};
 use std::io;
 
 impl Desk {
@@ -9,8 +9,8 @@ impl Desk {
     fn answer(&mut self, rt: &(impl Input + Print), call: Call) -> io::Result<()> {
         match call {
             Call::Stores(tree, sheet) => {
-                resize(&mut self.tree, tree);
-                resize(&mut self.sheet, sheet);
+                resize_front(&mut self.tree, tree);
+                resize_front(&mut self.sheet, sheet);
             }
             Call::PokeTree(place, byte) => poke(&mut self.tree, place, byte),
             Call::PokeSheet(place, byte) => poke(&mut self.sheet, place, byte),
@@ -22,7 +22,7 @@ impl Desk {
             Call::Question(asked) => self.question(rt, asked)?,
             Call::Count => self.count(rt)?,
             Call::CutSets(places) => self.list(rt, places)?,
-            Call::Book(length) => read_file(rt, length, &mut self.book),
+            Call::Book(length) => read_front(rt, length, &mut self.book),
             Call::Hour(hour, buffer) => {
                 self.hour = hour;
                 self.buffer = buffer;

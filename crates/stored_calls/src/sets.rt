@@ -1,6 +1,6 @@
 // Counting and listing minimal cut sets, each with what it prints.
 use crate::desk::Desk;
-use crate::lent::{Front, filled};
+use crate::lent::{Front, filled_front};
 use cut_sets::count::count_sets;
 use cut_sets::list::list_sets;
 use printed::checksum::PRIME;
@@ -41,7 +41,7 @@ impl Desk {
 
     // Lists the sets in a slice of so many places.
     pub fn list(&mut self, rt: &impl Print, places: usize) -> io::Result<()> {
-        let mut sets: Front<u64, 4096> = filled(FILL, places);
+        let mut sets: Front<u64, 4096> = filled_front(FILL, places);
         let reply = list_sets(self.lent_tree(), &mut sets);
         self.state = reply.state;
         print_count(rt, reply.outcome)?;

@@ -1,0 +1,2 @@
+-- What setting a store's length leaves.
+pub mod Resized
