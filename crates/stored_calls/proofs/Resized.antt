@@ -2,7 +2,7 @@
 use Rattle.std.proofs.Common.{◌≡◌, ◌++◌, ℕ, ◌≤◌, List, length, min, replicate, take, ap, sym, ◌∙◌, arith}
 use Rattle.std.proofs.lemmas.List.{take_min, take-take}
 
--- however long it is
+-- where its first places are these up to some place past its length, so are all up to its length
 pub set_to : (own room : List ℕ) (n i most x : ℕ) → length room ≡ most → min n most ≤ i
     → take i room ≡ take (min i most) (own ++ replicate most x)
     → take n room ≡ take (min n most) (own ++ replicate most x)

@@ -79,6 +79,7 @@ pub fn read_file<const ROOM: usize>(rt: &impl Input, length: usize) -> ArrayVec<
 }
 
 // Sets a store's length. Bytes there stay, and new ones are ee.
+#[tactic(auto, using(crate::proofs::Resized::set_to))]
 pub fn resize_front<const ROOM: usize>(store: &mut Front<u8, ROOM>, length: usize)
     ensures { take store.new.count store.new.room
         ≡ take (min length ROOM) (take store.old.count store.old.room ++ replicate ROOM 238) }
@@ -89,16 +90,14 @@ pub fn resize_front<const ROOM: usize>(store: &mut Front<u8, ROOM>, length: usiz
     store.count = length;
 }
 
-// The same of an `ArrayVec`.
+// The same of an `ArrayVec`, which is not copied to a front: a large one would not fit the stack again.
 pub fn resize<const ROOM: usize>(store: &mut ArrayVec<u8, ROOM>, length: usize)
     ensures { store.new.items ≡ take (min length ROOM) (store.old.items ++ replicate ROOM 238) }
 {
-    let count = store.len();
-    let mut room = [0; ROOM];
-    room[..count].copy_from_slice(store);
-    let mut front = Front { room, count };
-    resize_front(&mut front, length);
-    *store = front_of(front.room, front.count);
+    store.truncate(length);
+    for _ in store.len()..length.min(ROOM) {
+        let _ = store.try_push(238);
+    }
 }
 
 // Puts a byte at a place of a store, if it has one.
